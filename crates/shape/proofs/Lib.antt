@@ -1,0 +1,3 @@
+pub mod Booleans
+pub mod Positions
+pub mod Placing
