@@ -1,0 +1,13 @@
+pub mod Every
+pub mod FirstNo
+pub mod FirstLack
+pub mod Tests
+pub mod Stepwise
+pub mod Sides
+pub mod RangeAndCorners
+pub mod Matching
+pub mod OneWay
+pub mod CornerSets
+pub mod UsedParts
+pub mod Verdicts
+pub mod Copying
