@@ -14,7 +14,7 @@ use Rattle.refusal.specs.declared.Unused.the-variants.{Edge as UnusedEdge, Poin
 use Rattle.shape.specs.declared.triangle.Triangle.{Triangle}
 use Rattle.shape.specs.Lists.{Each}
 use Rattle.shape.specs.Questions.{FewTriangles, FewPointsAndEdges, InRange, DifferentCorners, EdgesMatch, OneWayEach, DifferentSets, Accepted}
-use Rattle.shape.specs.Verdict.{FailsFirstAt, EdgeUsed, PointUsed, Yes3, Yes4, Yes5, Yes6, Yes7, Yes8, Verdict}
+use Rattle.shape.specs.Verdict.{FailsFirstAt, EdgeUsed, PointUsed, YesTo3, YesTo4, YesTo5, YesTo6, YesTo7, YesTo8, Verdict}
 use Rattle.questions.specs.declared.question.Question.the-variants.{InRange as AsksRange, DifferentCorners as AsksCorners, EdgesMatch as AsksEdges, OneWayEach as AsksWays, DifferentSets as AsksSets}
 use Rattle.questions.specs.declared.used.Part.the-variants.{Edge, Point}
 use Rattle.questions.specs.Tests.{firstNo, isUsed, firstLack}
@@ -89,7 +89,7 @@ module _ (P E : ℕ) (ts : List Triangle) where
   abbrev after4 : Answer
   after4 = unless (firstNo AsksCorners ts) RepeatedCorner after5
 
-  used-verdict : Yes8 P E ts → Verdict P E ts (usedAnswer P E ts)
+  used-verdict : YesTo8 P E ts → Verdict P E ts (usedAnswer P E ts)
   used-verdict y =
       lacks E (firstLack (isUsed Edge ts) E) (λ e. Unused (UnusedEdge e)) (unless (firstLack (isUsed Point ts) P) (λ p. Unused (UnusedPoint p)) (Ok tt))
       (first-lack (edges-decide P E ts) E) (λ e l. (y, l))
@@ -105,16 +105,16 @@ module _ (P E : ℕ) (ts : List Triangle) where
         used = record { edges = all; points = every };
       }))
 
-  list-verdict : Yes3 P E ts → Verdict P E ts (listAnswer P E ts)
+  list-verdict : YesTo3 P E ts → Verdict P E ts (listAnswer P E ts)
   list-verdict y3 =
       chain (firstNo (AsksRange P E) ts) OutOfRange after4 (usedAnswer P E ts) (first-no (AsksRange P E) (range-stepwise P E) ts (each-unit ts)) (λ t f. (y3, f))
-      (λ a4. let y4 : Yes4 P E ts = (y3, a4) in
+      (λ a4. let y4 : YesTo4 P E ts = (y3, a4) in
       chain (firstNo AsksCorners ts) RepeatedCorner after5 (usedAnswer P E ts) (first-no AsksCorners corners-stepwise ts (each-unit ts)) (λ t f. (y4, f))
-      (λ a5. let y5 : Yes5 P E ts = (y4, a5) in
+      (λ a5. let y5 : YesTo5 P E ts = (y4, a5) in
       chain (firstNo AsksEdges ts) EdgeMismatch after6 (usedAnswer P E ts) (first-no AsksEdges matching-stepwise ts (each-unit ts)) (λ t f. (y5, f))
-      (λ a6. let y6 : Yes6 P E ts = (y5, a6) in
+      (λ a6. let y6 : YesTo6 P E ts = (y5, a6) in
       chain (firstNo AsksWays ts) EdgeDirection after7 (usedAnswer P E ts) (first-no AsksWays ways-stepwise ts a5) (λ t f. (y6, f))
-      (λ a7. let y7 : Yes7 P E ts = (y6, a7) in
+      (λ a7. let y7 : YesTo7 P E ts = (y6, a7) in
       chain (firstNo AsksSets ts) RepeatedTriangle after8 (usedAnswer P E ts) (first-no AsksSets sets-stepwise ts (each-unit ts)) (λ t f. (y7, f))
       (λ a8. used-verdict (y7, a8))))))
 
@@ -192,27 +192,27 @@ module _ (P E : ℕ) (ts : List Triangle) where
   eP o a = one-lack P (PointUsed P E ts) o OP a (first-lack (points-decide P E ts) P)
 
   -- all tests on the way to question 4, .., 9 pass
-  after-3 : Yes3 P E ts → (o4 : Option ℕ) → o4 ≡ O4 → total true true o4 O5 O6 O7 O8 OE OP ≡ answer P E ts
+  after-3 : YesTo3 P E ts → (o4 : Option ℕ) → o4 ≡ O4 → total true true o4 O5 O6 O7 O8 OE OP ≡ answer P E ts
   after-3 y o4 e = λ i. total (e2 (y .0) i) (e3 (y .1) i) (e i) O5 O6 O7 O8 OE OP
 
-  after-4 : Yes4 P E ts → (o5 : Option ℕ) → o5 ≡ O5 → total true true None o5 O6 O7 O8 OE OP ≡ answer P E ts
+  after-4 : YesTo4 P E ts → (o5 : Option ℕ) → o5 ≡ O5 → total true true None o5 O6 O7 O8 OE OP ≡ answer P E ts
   after-4 y o5 e = (λ i. total true true (e4 None (y .1) i) (e i) O6 O7 O8 OE OP) ∙ after-3 (y .0) O4 refl
 
-  after-5 : Yes5 P E ts → (o6 : Option ℕ) → o6 ≡ O6 → total true true None None o6 O7 O8 OE OP ≡ answer P E ts
+  after-5 : YesTo5 P E ts → (o6 : Option ℕ) → o6 ≡ O6 → total true true None None o6 O7 O8 OE OP ≡ answer P E ts
   after-5 y o6 e = (λ i. total true true None (e5 None (y .1) i) (e i) O7 O8 OE OP) ∙ after-4 (y .0) O5 refl
 
-  after-6 : Yes6 P E ts → (o7 : Option ℕ) → o7 ≡ O7 → total true true None None None o7 O8 OE OP ≡ answer P E ts
+  after-6 : YesTo6 P E ts → (o7 : Option ℕ) → o7 ≡ O7 → total true true None None None o7 O8 OE OP ≡ answer P E ts
   after-6 y o7 e = (λ i. total true true None None (e6 None (y .1) i) (e i) O8 OE OP) ∙ after-5 (y .0) O6 refl
 
-  after-7 : Yes7 P E ts → (o8 : Option ℕ) → o8 ≡ O8 → total true true None None None None o8 OE OP ≡ answer P E ts
+  after-7 : YesTo7 P E ts → (o8 : Option ℕ) → o8 ≡ O8 → total true true None None None None o8 OE OP ≡ answer P E ts
   after-7 y o8 e = (λ i. total true true None None None (e7 (y .0 .0 .1) None (y .1) i) (e i) OE OP) ∙ after-6 (y .0) O7 refl
 
-  after-8 : Yes8 P E ts → (oe op : Option ℕ) → oe ≡ OE → op ≡ OP → total true true None None None None None oe op ≡ answer P E ts
+  after-8 : YesTo8 P E ts → (oe op : Option ℕ) → oe ≡ OE → op ≡ OP → total true true None None None None None oe op ≡ answer P E ts
   after-8 y oe op e p = (λ i. total true true None None None None (e8 None (y .1) i) (e i) (p i)) ∙ after-7 (y .0) O8 refl
 
   pub only-verdict : (r : Answer) → Verdict P E ts r → r ≡ answer P E ts
   only-verdict (Ok u) a =
-      let y : Yes8 P E ts = ((((((a .triangles, a .sizes), a .below), a .three), a .matching), a .each-way), a .differ) in
+      let y : YesTo8 P E ts = ((((((a .triangles, a .sizes), a .below), a .three), a .matching), a .each-way), a .differ) in
       after-8 y None None (eE None (a .used .edges)) (eP None (a .used .points))
   only-verdict (Err (TriangleCount n)) v =
       ap (λ m. Err (TriangleCount m)) (v .0) ∙ (λ i. total (sym (is-false F (λ t. v .1 (few-sound ts t))) i) S O4 O5 O6 O7 O8 OE OP)

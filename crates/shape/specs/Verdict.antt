@@ -38,34 +38,34 @@ module _ (P E : ℕ) (ts : List Triangle) where
   LacksUse (Point p) = ((e : ℕ) → e < E → EdgeUsed e) × FirstLacking P PointUsed p
 
   -- yes to the questions 2 and 3, to those up to 4, .., up to 8
-  abbrev pub Yes3 : Type 0
-  Yes3 = FewTriangles ts × FewPointsAndEdges P E
+  abbrev pub YesTo3 : Type 0
+  YesTo3 = FewTriangles ts × FewPointsAndEdges P E
 
-  abbrev pub Yes4 : Type 0
-  Yes4 = Yes3 × InRange P E ts
+  abbrev pub YesTo4 : Type 0
+  YesTo4 = YesTo3 × InRange P E ts
 
-  abbrev pub Yes5 : Type 0
-  Yes5 = Yes4 × DifferentCorners ts
+  abbrev pub YesTo5 : Type 0
+  YesTo5 = YesTo4 × DifferentCorners ts
 
-  abbrev pub Yes6 : Type 0
-  Yes6 = Yes5 × EdgesMatch ts
+  abbrev pub YesTo6 : Type 0
+  YesTo6 = YesTo5 × EdgesMatch ts
 
-  abbrev pub Yes7 : Type 0
-  Yes7 = Yes6 × OneWayEach ts
+  abbrev pub YesTo7 : Type 0
+  YesTo7 = YesTo6 × OneWayEach ts
 
-  abbrev pub Yes8 : Type 0
-  Yes8 = Yes7 × DifferentSets ts
+  abbrev pub YesTo8 : Type 0
+  YesTo8 = YesTo7 × DifferentSets ts
 
   -- the earlier questions are answered yes, and this one no, with these values
   abbrev pub Refused : Refusal → Type 0
   Refused (TriangleCount n) = (n ≡ length ts) × (FewTriangles ts → ⊥)
   Refused (PointOrEdgeCount p e) = (p ≡ P) × (e ≡ E) × FewTriangles ts × (FewPointsAndEdges P E → ⊥)
-  Refused (OutOfRange t) = Yes3 × FailsFirstAt (InRange P E) ts t
-  Refused (RepeatedCorner t) = Yes4 × FailsFirstAt DifferentCorners ts t
-  Refused (EdgeMismatch t) = Yes5 × FailsFirstAt EdgesMatch ts t
-  Refused (EdgeDirection t) = Yes6 × FailsFirstAt OneWayEach ts t
-  Refused (RepeatedTriangle t) = Yes7 × FailsFirstAt DifferentSets ts t
-  Refused (NotUsed u) = Yes8 × LacksUse u
+  Refused (OutOfRange t) = YesTo3 × FailsFirstAt (InRange P E) ts t
+  Refused (RepeatedCorner t) = YesTo4 × FailsFirstAt DifferentCorners ts t
+  Refused (EdgeMismatch t) = YesTo5 × FailsFirstAt EdgesMatch ts t
+  Refused (EdgeDirection t) = YesTo6 × FailsFirstAt OneWayEach ts t
+  Refused (RepeatedTriangle t) = YesTo7 × FailsFirstAt DifferentSets ts t
+  Refused (NotUsed u) = YesTo8 × LacksUse u
   Refused (TooManySubdivisions n) = ⊥
   Refused (TooManyVertices v) = ⊥
   Refused (SubdividedTooOften n k) = ⊥

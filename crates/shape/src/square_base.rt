@@ -55,6 +55,8 @@ const TRIANGLES: [Triangle; 2] = [
     },
 ];
 
+const EDGES: usize = 5;
+
 pub impl BaseShape for SquareBase as SquareBaseShape {
     ghost points = { λ _. squarePoints };
 
@@ -67,7 +69,7 @@ pub impl BaseShape for SquareBase as SquareBaseShape {
     ghost half = { λ _. halved };
 
     fn point_count(&self) -> usize {
-        4
+        POINTS.len()
     }
 
     fn point(&self, i: usize) -> Option<Vec3A> {
@@ -75,7 +77,7 @@ pub impl BaseShape for SquareBase as SquareBaseShape {
     }
 
     fn triangle_count(&self) -> usize {
-        2
+        TRIANGLES.len()
     }
 
     fn triangle(&self, i: usize) -> Option<Triangle> {
@@ -83,7 +85,7 @@ pub impl BaseShape for SquareBase as SquareBaseShape {
     }
 
     fn edges(&self) -> usize {
-        5
+        EDGES
     }
 
     fn interpolate(&self, a: Vec3A, b: Vec3A, p: f32) -> Vec3A {

@@ -43,6 +43,8 @@ const TRIANGLES: [Triangle; 1] = [Triangle {
     ca: 2,
 }];
 
+const EDGES: usize = 3;
+
 pub impl BaseShape for TriangleBase as TriangleBaseShape {
     ghost points = { λ _. trianglePoints };
 
@@ -55,7 +57,7 @@ pub impl BaseShape for TriangleBase as TriangleBaseShape {
     ghost half = { λ _. halved };
 
     fn point_count(&self) -> usize {
-        3
+        POINTS.len()
     }
 
     fn point(&self, i: usize) -> Option<Vec3A> {
@@ -63,7 +65,7 @@ pub impl BaseShape for TriangleBase as TriangleBaseShape {
     }
 
     fn triangle_count(&self) -> usize {
-        1
+        TRIANGLES.len()
     }
 
     fn triangle(&self, i: usize) -> Option<Triangle> {
@@ -71,7 +73,7 @@ pub impl BaseShape for TriangleBase as TriangleBaseShape {
     }
 
     fn edges(&self) -> usize {
-        3
+        EDGES
     }
 
     fn interpolate(&self, a: Vec3A, b: Vec3A, p: f32) -> Vec3A {

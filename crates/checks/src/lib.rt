@@ -1,0 +1,6 @@
+// Tests of the layers, from outside.
+#[cfg(test)]
+mod interpolation;
+mod pyramid;
+#[cfg(test)]
+mod verdicts;
