@@ -1,6 +1,8 @@
 // Tests of the layers, from outside.
 #[cfg(test)]
 mod interpolation;
+#[cfg(test)]
+mod orders;
 mod pyramid;
 #[cfg(test)]
 mod verdicts;

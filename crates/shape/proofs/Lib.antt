@@ -1,3 +1,2 @@
 pub mod Booleans
-pub mod Positions
 pub mod Placing

@@ -7,7 +7,7 @@ ghost use lib.Ieee.{Float};
 ghost use lib.ListN.{length};
 ghost use Rattle.point.specs.declared.Vec3A.{Vec3A};
 ghost use Rattle.shape.specs.declared.triangle.Triangle.{Triangle};
-ghost use Rattle.shape.specs.Lists.{at};
+ghost use Rattle.shape.specs.Lists.{At};
 ghost use Rattle.shape.specs.Listing.{Interpolates};
 use crate::listing::can_list;
 use crate::listing::fraction;
@@ -34,13 +34,13 @@ pub trait BaseShape {
         ensures { λ r. ⌜ r ≡ length (points (now (self .entry))) ⌝ };
 
     fn point(&self, i: usize) -> Option<Vec3A>
-        ensures { λ r. ⌜ r ≡ at (points (now (self .entry))) i ⌝ };
+        ensures { λ r. ⌜ At (points (now (self .entry))) i r ⌝ };
 
     fn triangle_count(&self) -> usize
         ensures { λ r. ⌜ r ≡ length (triangles (now (self .entry))) ⌝ };
 
     fn triangle(&self, i: usize) -> Option<Triangle>
-        ensures { λ r. ⌜ r ≡ at (triangles (now (self .entry))) i ⌝ };
+        ensures { λ r. ⌜ At (triangles (now (self .entry))) i r ⌝ };
 
     fn edges(&self) -> usize
         ensures { λ r. ⌜ r ≡ edgeCount (now (self .entry)) ⌝ };

@@ -1,10 +1,9 @@
 // Positions of a list.
-ghost use mathlib.Core.Path.{_≡_};
-ghost use Rattle.shape.specs.Lists.{at};
+ghost use Rattle.shape.specs.Lists.{At};
 
 // What stands at position `i`, and none beyond the list.
 pub fn element<T: Copy>(list: &[T], i: usize) -> Option<T>
-    ensures { λ r. ⌜ r ≡ at (now (list .entry)) i ⌝ }
+    ensures { λ r. ⌜ At (now (list .entry)) i r ⌝ }
 {
     if i < list.len() { Some(list[i]) } else { None }
 }

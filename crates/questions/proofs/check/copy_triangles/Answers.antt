@@ -3,7 +3,7 @@ use mathlib.Core.Path.{_≡_, sym, ap, _∙_}
 use native.Mathlib.Omega.{arith}
 use lib.ListN.{length, take}
 use Rattle.std.proofs.shelf.Lists.{take-all}
-use Rattle.questions.proofs.Copying.{copied-more, at-not-past}
+use Rattle.questions.proofs.Copying.{copied-more}
 use Rattle.questions.proofs.check.copy_triangles.Needs as need
 use Rattle.questions.proofs.check.copy_triangles.Needs.{in-Some, in-rest}
 
@@ -15,8 +15,8 @@ loop-i-again g c =
     let k : i < length ts = omega arith in
     elim (c .match-triangle .came) [
       | in-Some w ↦
-          ap (take (i + 1)) (w .buffer-is) ∙ copied-more (c .loop-i .buffer) ts i (w .in-Some .t) h k (c .loop-i .inv) (w .in-Some .ensures tt)
-      | in-rest w ↦ absurd (at-not-past ts i k (w .in-rest .ensures tt))
+          ap (take (i + 1)) (w .buffer-is) ∙ copied-more (c .loop-i .buffer) ts i (w .in-Some .t) h k (c .loop-i .inv) (w .in-Some .ensures tt .1)
+      | in-rest w ↦ absurd (let z : ⊥ = omega (arith, w .in-rest .ensures tt) in z)
     ]
 
 pub returns : need.returns

@@ -1,0 +1,3 @@
+pub mod Reports
+pub mod Drafts
+pub mod Reading
