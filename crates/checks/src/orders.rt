@@ -138,7 +138,7 @@ const TWO: &str =
 fn orders_follow_one_another(rt: LibcRuntime) -> Result<(), Fail> {
     let mut want = String::from_str(rt.alloc(), "base triangle\n")?;
     want.push_str(ACCEPTED)?;
-    want.push_str("base list: 3 points, 3 edges, 1 triangles\n")?;
+    want.push_str("base list: 3 points, 3 edges, 1 triangle\n")?;
     want.push_str(ACCEPTED)?;
     want.push_str("line 11: expected base, edges, point, triangle or check")?;
     check_eq(answers(rt.alloc(), TWO)?.as_str(), want.as_str())
@@ -159,7 +159,7 @@ const SENTENCES: [(Refusal, &str); 18] = [
             points: 97,
             edges: 3,
         },
-        "a base has 3 to 96 points and 3 to 96 edges, and this one has 97 points and 3 edges",
+        "a base has 3 to 96 points and 3 to 96 edges, and this one has 97 and 3",
     ),
     (
         Refusal::OutOfRange { triangle: 4 },
@@ -218,7 +218,7 @@ const SENTENCES: [(Refusal, &str); 18] = [
             needed: 12,
             length: 11,
         },
-        "the buffer has 11 places, and 12 numbers are to be written",
+        "12 numbers are to be written, and the length of the buffer is 11",
     ),
     (
         Refusal::NumberTooLarge {
@@ -231,21 +231,21 @@ const SENTENCES: [(Refusal, &str); 18] = [
             numbers: 4,
             breaks: 1,
         },
-        "the sink cannot take 4 numbers and 1 breaks",
+        "the sink cannot take what is to be written: numbers 4, breaks 1",
     ),
     (
         Refusal::InvalidListing {
             listed: 2,
             points: 6,
         },
-        "2 vertices are listed, which is more than 3,360, or one of them is not among the 6 points",
+        "the list of vertices has more than 3,360 numbers (its length is 2), or one that is not below 6",
     ),
     (
         Refusal::DataTooShort {
             vertices: 10,
             length: 9,
         },
-        "the data has 9 places, and the mesh has 10 vertices",
+        "the mesh has 10 vertices, and the length of the data is 9",
     ),
 ];
 

@@ -43,7 +43,7 @@ fn write_count<W: fmt::Write>(refusal: &Refusal, f: &mut fmt::Formatter<W>) -> f
         Refusal::PointOrEdgeCount { points, edges } => {
             write!(
                 f,
-                "a base has 3 to 96 points and 3 to 96 edges, and this one has {points} points and {edges} edges"
+                "a base has 3 to 96 points and 3 to 96 edges, and this one has {points} and {edges}"
             )
         }
         Refusal::Unused {
@@ -78,7 +78,7 @@ fn write_call<W: fmt::Write>(refusal: &Refusal, f: &mut fmt::Formatter<W>) -> fm
         ),
         Refusal::BufferTooShort { needed, length } => write!(
             f,
-            "the buffer has {length} places, and {needed} numbers are to be written"
+            "{needed} numbers are to be written, and the length of the buffer is {length}"
         ),
         Refusal::NumberTooLarge { number } => write!(
             f,
@@ -86,17 +86,17 @@ fn write_call<W: fmt::Write>(refusal: &Refusal, f: &mut fmt::Formatter<W>) -> fm
         ),
         Refusal::SinkFull { numbers, breaks } => write!(
             f,
-            "the sink cannot take {numbers} numbers and {breaks} breaks"
+            "the sink cannot take what is to be written: numbers {numbers}, breaks {breaks}"
         ),
         Refusal::InvalidListing { listed, points } => {
             write!(
                 f,
-                "{listed} vertices are listed, which is more than 3,360, or one of them is not among the {points} points"
+                "the list of vertices has more than 3,360 numbers (its length is {listed}), or one that is not below {points}"
             )
         }
         Refusal::DataTooShort { vertices, length } => write!(
             f,
-            "the data has {length} places, and the mesh has {vertices} vertices"
+            "the mesh has {vertices} vertices, and the length of the data is {length}"
         ),
         _ => Ok(()),
     }

@@ -23,13 +23,26 @@ fn write_base<W: fmt::Write>(report: &Report, f: &mut fmt::Formatter<W>) -> fmt:
         Kind::Triangle => f.write_str("base triangle\n"),
         Kind::Square => f.write_str("base square\n"),
         Kind::List => {
-            let points = report.points;
-            let edges = report.edges;
-            let triangles = report.triangles;
-            write!(
-                f,
-                "base list: {points} points, {edges} edges, {triangles} triangles\n"
-            )
+            let points = Counted(report.points, "point");
+            let edges = Counted(report.edges, "edge");
+            let triangles = Counted(report.triangles, "triangle");
+            write!(f, "base list: {points}, {edges}, {triangles}\n")
+        }
+    }
+}
+
+// How many there are of what the word names.
+#[derive(Clone, Copy)]
+struct Counted(usize, &'static str);
+
+impl fmt::Display for Counted as CountedDisplay {
+    fn fmt<W: fmt::Write>(&self, f: &mut fmt::Formatter<W>) -> fmt::Result {
+        let count = self.0;
+        let name = self.1;
+        if count == 1 {
+            write!(f, "1 {name}")
+        } else {
+            write!(f, "{count} {name}s")
         }
     }
 }
