@@ -1,0 +1,9 @@
+pub mod Numbering
+pub mod Faces
+pub mod Strips
+pub mod Sinks
+pub mod Making
+pub mod Calls
+pub mod Counts
+pub mod Examples
+pub mod Recorded

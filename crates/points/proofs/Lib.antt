@@ -1,0 +1,12 @@
+pub mod Writes
+pub mod Contents
+pub mod Ready
+pub mod Cover
+pub mod Where
+pub mod Listed
+pub mod Alike
+pub mod Runs
+pub mod Promises
+pub mod Filling
+pub mod Examples
+pub mod Recorded
