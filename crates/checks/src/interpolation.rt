@@ -498,3 +498,12 @@ fn the_longest_listing() -> Result<(), Fail> {
     TriangleBase.interpolate_multiple(a, b, &[0; 3360], &mut one)?;
     check_eq(bits(one[0]), [0x3e99_b4e7, 0x40f7_e704, 0xc973_fece])
 }
+
+#[test]
+fn points_are_equal_by_bits() -> Result<(), Fail> {
+    let zero = point(0, 0, 0);
+    check(zero.same_bits(point(0, 0, 0)))?;
+    check(!zero.same_bits(point(0x8000_0000, 0, 0)))?;
+    check(!zero.same_bits(point(0, 0, 1)))?;
+    check(point(0x7fc0_0000, 1, 2).same_bits(point(0xffc0_0001, 1, 2)))
+}

@@ -1,6 +1,8 @@
 // A point of three f32 components.
+ghost use mathlib.Core.Bool.{true};
 ghost use mathlib.Core.Path.{_≡_};
 ghost use Rattle.point.specs.Points.{point, plus, times, scaled, Literals};
+use std::num::f32_to_bits_with_nan;
 use std::ops::Add;
 use std::ops::Mul;
 
@@ -19,6 +21,21 @@ impl Vec3A {
     {
         Vec3A { x, y, z }
     }
+
+    // Whether the two are equal by the bits of their components, all NaN alike: -0 is not 0.
+    pub fn same_bits(self, other: Vec3A) -> bool
+        ensures sound { λ r. ⌜ (r ≡ true → self ≡ other) ⌝ }
+        ensures complete { λ r. ⌜ (self ≡ other → r ≡ true) ⌝ }
+    {
+        same_float(self.x, other.x) && same_float(self.y, other.y) && same_float(self.z, other.z)
+    }
+}
+
+fn same_float(a: f32, b: f32) -> bool
+    ensures sound { λ r. ⌜ (r ≡ true → a ≡ b) ⌝ }
+    ensures complete { λ r. ⌜ (a ≡ b → r ≡ true) ⌝ }
+{
+    f32_to_bits_with_nan(a) == f32_to_bits_with_nan(b)
 }
 
 // Component by component.
