@@ -18,3 +18,4 @@ pub mod Making
 pub mod OneMaking
 pub mod Calls
 pub mod Recorded
+pub mod Blank

@@ -7,3 +7,4 @@ pub mod Calls
 pub mod Counts
 pub mod Examples
 pub mod Recorded
+pub mod Blank

@@ -1,7 +1,7 @@
 -- What making a mesh answers, and the mesh that it leaves.
 use mathlib.Core.Path.{_≡_}
 use Prim.Native.Nat.{ℕ, _≤_, _<_}
-use mathlib.Core.List.{List}
+use mathlib.Core.List.{List, []}
 use lib.ListN.{length}
 use Rattle.std.specs.declared.result.Result.{Result}
 use Rattle.std.specs.declared.result.Result.the-variants.{Ok, Err}
@@ -30,8 +30,17 @@ pub record Makes (P E : ℕ) (ts : List Triangle) (n : ℕ) : Type 0 where
 abbrev pub Accepted-made : Type 0
 Accepted-made = (P E : ℕ) (ts : List Triangle) (n : ℕ) → Accepted P E ts → n ≤ 12 → Makes P E ts n
 
--- a making has one answer, and leaves one mesh
-abbrev pub One-making : Type 0
-One-making =
-    (P E : ℕ) (ts : List Triangle) (n : ℕ) (r r′ : Result (Unit {0}) Refusal) (N N′ : Numbering)
-    → Making P E ts n r N → Making P E ts n r′ N′ → (r ≡ r′) × (N ≡ N′)
+-- the one answer of a making, and the one mesh that it leaves
+pub record One-making (P E : ℕ) (ts : List Triangle) (n : ℕ) : Type 0 where
+  pub answer : Result (Unit {0}) Refusal
+  pub mesh : Numbering
+  pub stands : Making P E ts n answer mesh
+  pub only : (r : Result (Unit {0}) Refusal) (N : Numbering) → Making P E ts n r N → (r ≡ answer) × (N ≡ mesh)
+
+abbrev pub Every-making-has-one-answer : Type 0
+Every-making-has-one-answer = (P E : ℕ) (ts : List Triangle) (n : ℕ) → One-making P E ts n
+
+-- the triangles that a mesh has: those of its base after an accepted making, none after a refused one
+abbrev pub heldTriangles : Result (Unit {0}) Refusal → List Triangle → List Triangle
+heldTriangles (Ok u) ts = ts
+heldTriangles (Err r) ts = []

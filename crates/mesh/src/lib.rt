@@ -1,11 +1,12 @@
 // The faces and the line strips of a whole mesh, and the promises proved of them.
 pub mod formulas;
 
+ghost use Rattle.mesh.specs.Blank.{Blank-stands};
 ghost use Rattle.mesh.specs.Calls.{Accepted-fits};
 ghost use Rattle.mesh.specs.Examples.{Examples};
 ghost use Rattle.mesh.specs.Recorded.{All-agree};
 ghost use Rattle.mesh.specs.Faces.{Faces-counted, Readings-stand, Sides-once};
-ghost use Rattle.mesh.specs.Making.{Accepted-made, One-making};
+ghost use Rattle.mesh.specs.Making.{Accepted-made, Every-making-has-one-answer};
 ghost use Rattle.mesh.specs.Numbering.{Vertices-once};
 ghost use Rattle.mesh.specs.Sinks.{Sinks-filled};
 ghost use Rattle.mesh.specs.Strips.{Lines-counted, Numbers-below, Strips-once};
@@ -26,7 +27,14 @@ pub fn making_stands() -> u8
 
 // A making has one answer, and leaves one mesh.
 pub fn one_making_stands() -> u8
-    ensures { λ _. ⌜ One-making ⌝ }
+    ensures { λ _. ⌜ Every-making-has-one-answer ⌝ }
+{
+    0
+}
+
+// The mesh of a refused making has no vertex, however often it is subdivided; no call writes anything of it.
+pub fn blank_stands() -> u8
+    ensures { λ _. ⌜ Blank-stands ⌝ }
 {
     0
 }
