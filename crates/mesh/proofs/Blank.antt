@@ -85,6 +85,7 @@ blank-at n =
     numbers (major-lines offset s) = refl
     numbers (all-lines offset s) = refl
     numbers (fill room) = refl
+
     strips : (a : Ask) → stripsWritten [] (blankAt n) a ≡ []
     strips (triangle-faces t room) = refl
     strips (all-faces room) = refl

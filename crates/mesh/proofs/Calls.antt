@@ -11,7 +11,7 @@ use Rattle.std.specs.declared.option.Option.the-variants.{Some, None}
 use Rattle.pattern.specs.Amounts.{lengths, triangleLineNumbers, triangleLineBreaks}
 use Rattle.refusal.specs.declared.Refusal.{Refusal}
 use Rattle.refusal.specs.declared.Refusal.the-variants.{NoTriangle, BufferTooShort, NumberTooLarge, SinkFull, DataTooShort}
-use Rattle.mesh.specs.Calls.{triangle-faces, all-faces, triangle-lines, major-lines, all-lines, fill, TakenBy, firstNo, unless, triangleThere, bufferHolds, numbersFit, sinkTakes, Accepted-fits}
+use Rattle.mesh.specs.Calls.{triangle-faces, all-faces, triangle-lines, major-lines, all-lines, fill, TakenBy, firstNo, unless, noTriangle, bufferShort, numberLarge, sinkFull, Accepted-fits}
 use Rattle.mesh.specs.Faces.{triangleFaceNumbers, allFaceNumbers}
 use Rattle.mesh.specs.Sinks.{Sink}
 use Rattle.mesh.specs.Strips.{stripsOf, majorStrips, strips, majorNumbers, majorBreaks, allNumbers, allBreaks, offsetBy}
@@ -66,8 +66,8 @@ module _ (s : Sink) (offset Z : ℕ) where
 
 pub accepted-fits : Accepted-fits
 accepted-fits P E ts A N R (triangle-faces t room) e =
-    let there = yes (ltb t (length ts)) (NoTriangle t (length ts)) (first-yes (triangleThere ts N t) (bufferHolds ts N (triangleFaceNumbers N) room) e) in
-    let space = yes (leb (triangleFaceNumbers N) room) (BufferTooShort (triangleFaceNumbers N) room) (second-yes (triangleThere ts N t) (bufferHolds ts N (triangleFaceNumbers N) room) e) in
+    let there = yes (ltb t (length ts)) (NoTriangle t (length ts)) (first-yes (noTriangle ts N t) (bufferShort ts N (triangleFaceNumbers N) room) e) in
+    let space = yes (leb (triangleFaceNumbers N) room) (BufferTooShort (triangleFaceNumbers N) room) (second-yes (noTriangle ts N t) (bufferShort ts N (triangleFaceNumbers N) room) e) in
     let size = faces-counted P E ts A N R .triangle t (ltb→lt t (length ts) there) in
     omega (arith, leb→le (triangleFaceNumbers N) room space)
 accepted-fits P E ts A N R (all-faces room) e =
@@ -77,22 +77,22 @@ accepted-fits P E ts A N R (all-faces room) e =
 accepted-fits P E ts A N R (triangle-lines t offset s) e =
     let p : ℕ = triangleLineNumbers (N .n) in
     let b : ℕ = triangleLineBreaks (N .n) in
-    let rest = firstNo (numbersFit ts N offset) (sinkTakes ts N s p b) in
-    let l = ltb→lt t (length ts) (yes (ltb t (length ts)) (NoTriangle t (length ts)) (first-yes (triangleThere ts N t) rest e)) in
-    let f = second-yes (triangleThere ts N t) rest e in
+    let rest = firstNo (numberLarge ts N offset) (sinkFull ts N s p b) in
+    let l = ltb→lt t (length ts) (yes (ltb t (length ts)) (NoTriangle t (length ts)) (first-yes (noTriangle ts N t) rest e)) in
+    let f = second-yes (noTriangle ts N t) rest e in
     let L = lines-counted P E ts A N R in
     taken s offset (N .total) p b (stripsOf ts N t) (L .triangle-numbers t l) (L .triangle-breaks t l) (numbers-below P E ts A N R .triangle-lines t)
-    (first-yes (numbersFit ts N offset) (sinkTakes ts N s p b) f) (second-yes (numbersFit ts N offset) (sinkTakes ts N s p b) f)
+    (first-yes (numberLarge ts N offset) (sinkFull ts N s p b) f) (second-yes (numberLarge ts N offset) (sinkFull ts N s p b) f)
 accepted-fits P E ts A N R (major-lines offset s) e =
     let p : ℕ = majorNumbers N in
     let b : ℕ = majorBreaks N in
     let L = lines-counted P E ts A N R in
     taken s offset (N .total) p b (majorStrips ts N) (L .major-numbers) (L .major-breaks) (numbers-below P E ts A N R .major-lines)
-    (first-yes (numbersFit ts N offset) (sinkTakes ts N s p b) e) (second-yes (numbersFit ts N offset) (sinkTakes ts N s p b) e)
+    (first-yes (numberLarge ts N offset) (sinkFull ts N s p b) e) (second-yes (numberLarge ts N offset) (sinkFull ts N s p b) e)
 accepted-fits P E ts A N R (all-lines offset s) e =
     let p : ℕ = allNumbers ts N in
     let b : ℕ = allBreaks ts N in
     let L = lines-counted P E ts A N R in
     taken s offset (N .total) p b (strips ts N) (L .all-numbers) (L .all-breaks) (numbers-below P E ts A N R .all-lines)
-    (first-yes (numbersFit ts N offset) (sinkTakes ts N s p b) e) (second-yes (numbersFit ts N offset) (sinkTakes ts N s p b) e)
+    (first-yes (numberLarge ts N offset) (sinkFull ts N s p b) e) (second-yes (numberLarge ts N offset) (sinkFull ts N s p b) e)
 accepted-fits P E ts A N R (fill room) e = leb→le (N .total) room (yes (leb (N .total) room) (DataTooShort (N .total) room) e)

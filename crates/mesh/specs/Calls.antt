@@ -1,12 +1,14 @@
 -- When the calls on a mesh are refused, and what those that read a settled mesh write.
 use mathlib.Core.Path.{_≡_}
 use mathlib.Core.Bool.{Bool, cond}
-use mathlib.Core.List.{List, []}
+use mathlib.Core.List.{List, [], _++_}
 use Prim.Native.Nat.{ℕ, _+_, _-_, _≤_, _<_}
 use lib.Dec.{T, leb, ltb}
-use lib.ListN.{length}
+use lib.ListN.{length, drop}
 use Rattle.std.specs.declared.option.Option.{Option}
 use Rattle.std.specs.declared.option.Option.the-variants.{Some, None}
+use Rattle.std.specs.declared.result.Result.{Result}
+use Rattle.std.specs.declared.result.Result.the-variants.{Ok, Err}
 use Rattle.refusal.specs.declared.Refusal.{Refusal}
 use Rattle.refusal.specs.declared.Refusal.the-variants.{SubdividedTooOften, NoTriangle, BufferTooShort, NumberTooLarge, SinkFull, DataTooShort}
 use Rattle.shape.specs.declared.triangle.Triangle.{Triangle}
@@ -40,45 +42,50 @@ firstNo None q = q
 abbrev pub unless : Bool → Refusal → Option Refusal
 unless b r = cond b None (Some r)
 
--- 11: the count and the amount are at most 12 together
-abbrev pub subdividable : Numbering → ℕ → Option Refusal
-subdividable N amount = unless (leb (N .n + amount) 12) (SubdividedTooOften (N .n) amount)
+-- 11, unless the count and the amount are at most 12 together
+abbrev pub tooOften : Numbering → ℕ → Option Refusal
+tooOften N amount = unless (leb (N .n + amount) 12) (SubdividedTooOften (N .n) amount)
 
 -- what a call makes of old, where new is what it makes of it when it is accepted
 abbrev pub unlessRefused : {X : Type 0} → Option Refusal → X → X → X
 unlessRefused None new old = new
 unlessRefused (Some r) new old = old
 
+-- what a call answers, where x is its answer when it is accepted
+abbrev pub answeredOr : {X : Type 0} → Option Refusal → X → Result X Refusal
+answeredOr None x = Ok x
+answeredOr (Some r) x = Err r
+
 module _ (ts : List Triangle) (N : Numbering) where
-  -- 12: the triangle is there
-  abbrev pub triangleThere : ℕ → Option Refusal
-  triangleThere t = unless (ltb t (length ts)) (NoTriangle t (length ts))
+  -- 12, unless the triangle is there
+  abbrev pub noTriangle : ℕ → Option Refusal
+  noTriangle t = unless (ltb t (length ts)) (NoTriangle t (length ts))
 
-  -- 13: the buffer has space for all numbers
-  abbrev pub bufferHolds : ℕ → ℕ → Option Refusal
-  bufferHolds needed room = unless (leb needed room) (BufferTooShort needed room)
+  -- 13, unless the buffer has space for all numbers
+  abbrev pub bufferShort : ℕ → ℕ → Option Refusal
+  bufferShort needed room = unless (leb needed room) (BufferTooShort needed room)
 
-  -- 14: the offset plus the total is at most 4,294,967,295; the number told is the largest
-  abbrev pub numbersFit : ℕ → Option Refusal
-  numbersFit offset = unless (leb (offset + N .total) 4294967295) (NumberTooLarge (offset + N .total - 1))
+  -- 14, unless the offset plus the total is at most 4,294,967,295; the number told is the largest
+  abbrev pub numberLarge : ℕ → Option Refusal
+  numberLarge offset = unless (leb (offset + N .total) 4294967295) (NumberTooLarge (offset + N .total - 1))
 
-  -- 15: the sink can take the call's numbers and breaks
-  abbrev pub sinkTakes : Sink → ℕ → ℕ → Option Refusal
-  sinkTakes s p b = unless (s .takes p b) (SinkFull p b)
+  -- 15, unless the sink can take the call's numbers and breaks
+  abbrev pub sinkFull : Sink → ℕ → ℕ → Option Refusal
+  sinkFull s p b = unless (s .takes p b) (SinkFull p b)
 
-  -- 17: the data slice is at least as long as the total
-  abbrev pub dataHolds : ℕ → Option Refusal
-  dataHolds room = unless (leb (N .total) room) (DataTooShort (N .total) room)
+  -- 17, unless the data slice is at least as long as the total
+  abbrev pub dataShort : ℕ → Option Refusal
+  dataShort room = unless (leb (N .total) room) (DataTooShort (N .total) room)
 
   -- why a call is refused, if it is
   abbrev pub refusal : Ask → Option Refusal
-  refusal (triangle-faces t room) = firstNo (triangleThere t) (bufferHolds (triangleFaceNumbers N) room)
-  refusal (all-faces room) = bufferHolds (allFaceNumbers ts N) room
+  refusal (triangle-faces t room) = firstNo (noTriangle t) (bufferShort (triangleFaceNumbers N) room)
+  refusal (all-faces room) = bufferShort (allFaceNumbers ts N) room
   refusal (triangle-lines t offset s) =
-      firstNo (triangleThere t) (firstNo (numbersFit offset) (sinkTakes s (triangleLineNumbers (N .n)) (triangleLineBreaks (N .n))))
-  refusal (major-lines offset s) = firstNo (numbersFit offset) (sinkTakes s (majorNumbers N) (majorBreaks N))
-  refusal (all-lines offset s) = firstNo (numbersFit offset) (sinkTakes s (allNumbers ts N) (allBreaks ts N))
-  refusal (fill room) = dataHolds room
+      firstNo (noTriangle t) (firstNo (numberLarge offset) (sinkFull s (triangleLineNumbers (N .n)) (triangleLineBreaks (N .n))))
+  refusal (major-lines offset s) = firstNo (numberLarge offset) (sinkFull s (majorNumbers N) (majorBreaks N))
+  refusal (all-lines offset s) = firstNo (numberLarge offset) (sinkFull s (allNumbers ts N) (allBreaks ts N))
+  refusal (fill room) = dataShort room
 
   -- the numbers that an accepted face call writes at the front of its buffer
   abbrev pub numbersWritten : Ask → List ℕ
@@ -88,6 +95,14 @@ module _ (ts : List Triangle) (N : Numbering) where
   numbersWritten (major-lines offset s) = []
   numbersWritten (all-lines offset s) = []
   numbersWritten (fill room) = []
+
+  -- the buffer after a face call: the numbers at its front, the rest as it was; a refused call leaves it
+  abbrev pub bufferAfter : Ask → List ℕ → List ℕ
+  bufferAfter a old = unlessRefused (refusal a) (numbersWritten a ++ drop (length (numbersWritten a)) old) old
+
+  -- what a face call answers: how many numbers it wrote
+  abbrev pub faceAnswer : Ask → Result ℕ Refusal
+  faceAnswer a = answeredOr (refusal a) (length (numbersWritten a))
 
   -- the strips that an accepted line call writes to its sink
   abbrev pub stripsWritten : Ask → List (List ℕ)

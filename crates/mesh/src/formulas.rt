@@ -1,4 +1,4 @@
-// How many numbers and breaks the calls write, and the counts, as formulas.
+// How many numbers and breaks the faces and strips of one triangle have, as formulas.
 ghost use mathlib.Core.Path.{_≡_};
 ghost use Prim.Native.Nat.{ℕ, _+_, _*_, _/_};
 ghost use Rattle.pattern.specs.Amounts.{triangleFaceCount, triangleLineNumbers, triangleLineBreaks};

@@ -59,7 +59,15 @@ module _ {X : Type 0} where
   onSide p L s q zero = p
   onSide p L s q (suc i) = cond (leb (suc i) L) (s i) q
 
-  -- the positions of the contents: side AB, BC, CA; d stands where the contents have none
+  -- how many positions each side of the contents has, seen from outside
+  abbrev pub positions : Contents X → ℕ
+  positions none = 0
+  positions (one x) = 1
+  positions (three a b c) = 2
+  positions (six a b c ab bc ca) = 3
+  positions (more a b c L ab bc ca s) = suc (suc L)
+
+  -- the positions of the contents: side AB, BC, CA; d is read where there are no contents, and no formula reads beyond the last position
   abbrev pub posAB : X → Contents X → ℕ → X
   posAB d none i = d
   posAB d (one x) i = x

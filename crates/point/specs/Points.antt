@@ -29,11 +29,11 @@ abbrev pub minus-half : Float
 minus-half = ofBits binary32 0xbf000000
 
 -- half the root of three
-abbrev pub root : Float
-root = ofBits binary32 0x3f5db3d7
+abbrev pub half-root : Float
+half-root = ofBits binary32 0x3f5db3d7
 
-abbrev pub minus-root : Float
-minus-root = ofBits binary32 0xbf5db3d7
+abbrev pub minus-half-root : Float
+minus-half-root = ofBits binary32 0xbf5db3d7
 
 abbrev pub one : Float
 one = ofBits binary32 0x3f800000
@@ -45,10 +45,10 @@ minus-one = ofBits binary32 0xbf800000
 pub record Literals : Type 0 where
   pub nought-is : nought ≡ fin false 0 (pos 0)
   pub half-is : half ≡ fin false 1 (negsuc 0)
-  pub root-is : root ≡ fin false 14529495 (negsuc 23)
+  pub half-root-is : half-root ≡ fin false 14529495 (negsuc 23)
   pub one-is : one ≡ fin false 1 (pos 0)
   pub minus-half-is : minus-half ≡ neg half
-  pub minus-root-is : minus-root ≡ neg root
+  pub minus-half-root-is : minus-half-root ≡ neg half-root
   pub minus-one-is : minus-one ≡ neg one
 
 -- (1 - p) × a + p × b

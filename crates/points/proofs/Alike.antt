@@ -124,7 +124,7 @@ first-joins P D e (t ∷ ts) z b =
     (joins-cond P (eqb e (t .bc)) _ _ (b .0 .b<P, b .0 .c<P)
     (joins-cond P (eqb e (t .ca)) _ _ (b .0 .c<P, b .0 .a<P) (first-joins P D e ts z (b .1))))
 
-module _ {Point Frac : Type 0} (share : ℕ → ℕ → Frac) (blank : Point) (R : Point → Point → Type 0) (M M′ : Meaning Point Frac) (S : SameBase R M M′) where
+module _ {Point Frac : Type 0} (share : ℕ → ℕ → Frac) (blank : Point) (R : Point → Point → Type 0) (M M′ : Meaning Point Frac) (S : SameBase share R M M′) where
   filled-like :
       (n : ℕ) (ab bc ca ab′ bc′ ca′ : ℕ → Point) → ((i : ℕ) → R (ab i) (ab′ i)) → ((i : ℕ) → R (bc i) (bc′ i)) → ((i : ℕ) → R (ca i) (ca′ i))
       → Like R (filled share blank M n ab bc ca) (filled share blank M′ n ab′ bc′ ca′)
@@ -143,9 +143,9 @@ module _ {Point Frac : Type 0} (share : ℕ → ℕ → Frac) (blank : Point) (R
       let a = S .half _ _ _ _ (rab 1) (rca z) in
       let b = S .half _ _ _ _ (rab z) (rbc 1) in
       let c = S .half _ _ _ _ (rbc z) (rca 1) in
-      let sab = λ (i : ℕ). S .between _ _ _ _ a b (share i (suc (suc k))) in
-      let sbc = λ (i : ℕ). S .between _ _ _ _ b c (share i (suc (suc k))) in
-      let sca = λ (i : ℕ). S .between _ _ _ _ c a (share i (suc (suc k))) in
+      let sab = λ (i : ℕ). S .between _ _ _ _ a b i (suc (suc k)) in
+      let sbc = λ (i : ℕ). S .between _ _ _ _ b c i (suc (suc k)) in
+      let sca = λ (i : ℕ). S .between _ _ _ _ c a i (suc (suc k)) in
       l-more a b c sab sbc sca (filled-like (suc (suc k)) _ _ _ _ _ _ sab sbc sca)
 
   module _ (A : Accepted (length (M .points)) (M .edges) (M .triangles)) where
@@ -161,7 +161,7 @@ module _ {Point Frac : Type 0} (share : ℕ → ℕ → Frac) (blank : Point) (R
         (λ (ts : List Triangle). R (edgePoint share blank M n e i)
         (M′ .between (cornerPoint blank M′ (firstUse e (uses ts) .start)) (cornerPoint blank M′ (firstUse e (uses ts) .stop)) (share i n)))
         (S .triangles)
-        (S .between _ _ _ _ (corner-like (firstUse e (uses (M .triangles)) .start) (j .0)) (corner-like (firstUse e (uses (M .triangles)) .stop) (j .1)) (share i n))
+        (S .between _ _ _ _ (corner-like (firstUse e (uses (M .triangles)) .start) (j .0)) (corner-like (firstUse e (uses (M .triangles)) .stop) (j .1)) i n)
 
     side-like : (n : ℕ) (t : BySide) (k i : ℕ) → R (sidePoint share blank M n t k i) (sidePoint share blank M′ n t k i)
     side-like n t k i =
@@ -223,7 +223,7 @@ module _ {Point Frac : Type 0} (share : ℕ → ℕ → Frac) (blank : Point) (R
 
 pub buffers-like :
     (Point Frac : Type 0) (R : Point → Point → Type 0) (share : ℕ → ℕ → Frac) (blank : Point) (M M′ : Meaning Point Frac) (N N′ : Numbering) (f f′ : List Point)
-    → SameBase R M M′ → Accepted (length (M .points)) (M .edges) (M .triangles)
+    → SameBase share R M M′ → Accepted (length (M .points)) (M .edges) (M .triangles)
     → Reached (length (M .points)) (M .edges) (M .triangles) N → Reached (length (M′ .points)) (M′ .edges) (M′ .triangles) N′
     → N .n ≡ N′ .n → 3360 ≤ length f → 3360 ≤ length f′
     → Both (BothFace R) (pointFaces blank M N (calculated share blank M N f)) (pointFaces blank M′ N′ (calculated share blank M′ N′ f′))

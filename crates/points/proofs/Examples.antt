@@ -1,14 +1,11 @@
 -- The worked examples hold.
 use mathlib.Core.Path.{refl, ap₂}
-use mathlib.Core.List.{[], _∷_}
 use native.Mathlib.Omega.{arith}
 use Rattle.mesh.specs.Examples.{square}
 use Rattle.mesh.specs.Numbering.{made}
 use Rattle.questions.proofs.Verdicts.{answer-verdict}
 use Rattle.mesh.proofs.Making.{accepted-made}
-use Rattle.mesh.specs.Calls.{all-faces}
-use Rattle.points.specs.Examples.{Examples, between, half, any-buffer}
-use Rattle.points.specs.Runs.{subdivide, calculate, reopen, ask}
+use Rattle.points.specs.Examples.{Examples, between, half, square-calls}
 
 pub examples : Examples
 examples =
@@ -23,12 +20,14 @@ examples =
       none-written = λ f. refl;
       histories = refl;
       backward = refl;
+      square-after = refl;
+      square-added = refl;
       square-run =
           record {
             n = 1;
             first = made 4 5 2 1;
             making = accepted-made 4 5 square 1 (answer-verdict 4 5 square) (omega arith) .passes;
-            calls = calculate any-buffer ∷ ask (all-faces 24) ∷ reopen ∷ subdivide 3 ∷ subdivide 9 ∷ calculate any-buffer ∷ [];
+            calls = square-calls;
             leads = refl;
           };
       square-same =
@@ -36,7 +35,7 @@ examples =
             points = (refl, (refl, (refl, (refl, tt))));
             triangles = refl;
             edges = refl;
-            between = λ p p′ q q′ d e s. ap₂ (λ x y. between x y s) d e;
+            between = λ p p′ q q′ d e i n. ap₂ (λ x y. between x y (i, n)) d e;
             half = λ p p′ q q′ d e. ap₂ half d e;
           };
     }

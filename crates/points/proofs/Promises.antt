@@ -18,13 +18,25 @@ use Rattle.mesh.proofs.Counted.{vertices-once}
 use Rattle.mesh.proofs.Sinks.{sinks-filled}
 use Rattle.mesh.proofs.Whole.{sides-once, strips-once}
 use Rattle.points.specs.Calculating.{calculated}
-use Rattle.points.specs.Promises.{Both, BothFace, pointFaces, FixedBy, Vertices-of-runs, Faces-of-runs, Strips-of-runs, Points-of-runs, Vec3A-of-runs}
+use Rattle.points.specs.Promises.{Both, BothFace, pointFaces, FixedBy, Placed, Count-of-runs, Placed-of-runs, Vertices-of-runs, Faces-of-runs, Strips-of-runs, Points-of-runs, Vec3A-of-runs}
 use Rattle.points.proofs.Alike.{buffers-like}
-use Rattle.points.proofs.Runs.{Kept, kept, accepted-base}
+use Rattle.points.proofs.Runs.{Kept, kept, counted, reached-count, accepted-base}
+use Rattle.points.proofs.Where.{points-placed}
 
 pub vertices-of-runs : (Point Frac : Type 0) → Vertices-of-runs Point Frac
 vertices-of-runs Point Frac share blank M N F r =
     vertices-once (length (M .points)) (M .edges) (M .triangles) (accepted-base share blank M N F r) N (kept share blank M N F r .reached)
+
+pub count-of-runs : (Point Frac : Type 0) → Count-of-runs Point Frac
+count-of-runs Point Frac share blank M N F r =
+    (counted share blank M N F r, reached-count (length (M .points)) (M .edges) (M .triangles) N (kept share blank M N F r .reached))
+
+pub placed-of-runs : (Point Frac : Type 0) → Placed-of-runs Point Frac
+placed-of-runs Point Frac share blank M N F r =
+    let K : Kept share blank M N F = kept share blank M N F r in
+    let l : 3360 ≤ length (K .before) = let z = K .long in omega arith in
+    let c = points-placed Point Frac share blank M N (K .before) (accepted-base share blank M N F r) (K .reached) l in
+    subst (Placed share blank M N) (sym (K .is)) (record { long = c .long ∙ K .long; corner = c .corner; spots = c .spots })
 
 -- ---- faces
 told : (l : List (Face ℕ)) → triples (faceNumbers l) ≡ l

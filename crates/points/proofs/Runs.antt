@@ -1,8 +1,9 @@
--- What any list of calls leads to: a reached numbering, and, where the mesh is settled, its points as calculated.
-use mathlib.Core.Path.{_≡_, refl, subst}
+-- What any list of calls leads to: a reached numbering and its count, and, where the mesh is settled, its points as calculated.
+use mathlib.Core.Path.{_≡_, refl, sym, ap, _∙_, subst}
 use mathlib.Core.Bool.{Bool, true, false}
 use mathlib.Core.List.{List, [], _∷_}
 use Prim.Native.Nat.{ℕ, _+_, _≤_}
+use native.Mathlib.Omega.{arith}
 use lib.Dec.{T, leb, leb→le}
 use lib.ListN.{length}
 use Rattle.refusal.specs.declared.Refusal.the-variants.{SubdividedTooOften}
@@ -14,13 +15,20 @@ use Rattle.mesh.specs.Calls.{unless, unlessRefused}
 use Rattle.mesh.specs.Numbering.{Numbering, grown, Reached, making, subdividing}
 use Rattle.points.specs.Calculating.{Meaning, calculated}
 use Rattle.points.specs.Promises.{Run}
-use Rattle.points.specs.Runs.{State, pending, settled, Call, subdivide, calculate, reopen, ask, afterCall, after}
+use Rattle.points.specs.Runs.{State, pending, settled, Call, subdivide, calculate, reopen, ask, afterCall, after, added, addedBy}
 
 made-reached : (P E : ℕ) (ts : List Triangle) (n : ℕ) (N : Numbering) → Making P E ts n (Ok tt) N → Reached P E ts N
 made-reached P E ts n N (accepted h A l) = making n h
 
 made-accepted : (P E : ℕ) (ts : List Triangle) (n : ℕ) (N : Numbering) → Making P E ts n (Ok tt) N → Accepted P E ts
 made-accepted P E ts n N (accepted h A l) = A
+
+made-count : (P E : ℕ) (ts : List Triangle) (n : ℕ) (N : Numbering) → Making P E ts n (Ok tt) N → N .n ≡ n
+made-count P E ts n N (accepted h A l) = refl
+
+pub reached-count : (P E : ℕ) (ts : List Triangle) (N : Numbering) → Reached P E ts N → N .n ≤ 12
+reached-count P E ts N (making n h) = h
+reached-count P E ts N (subdividing amount r h) = h
 
 module _ {Point Frac : Type 0} (share : ℕ → ℕ → Frac) (blank : Point) (M : Meaning Point Frac) where
   pub record Kept (N : Numbering) (F : List Point) : Type 0 where
@@ -56,6 +64,40 @@ module _ {Point Frac : Type 0} (share : ℕ → ℕ → Frac) (blank : Point) (M
   kept N F r =
       subst Sound (r .leads)
       (after-sound (r .calls) (pending (r .first)) (made-reached (length (M .points)) (M .edges) (M .triangles) (r .n) (r .first) (r .making)))
+
+  -- ---- the count
+  abbrev countOf : State Point → ℕ
+  countOf (pending N) = N .n
+  countOf (settled N F) = N .n
+
+  grown-count :
+      (N : Numbering) (amount : ℕ) (b : Bool)
+      → unlessRefused (unless b (SubdividedTooOften (N .n) amount)) (grown amount N) N .n
+      ≡ N .n + unlessRefused (unless b (SubdividedTooOften (N .n) amount)) amount 0
+  grown-count N amount true = refl
+  grown-count N amount false = omega arith
+
+  call-count : (c : Call Point) (s : State Point) → countOf (afterCall share blank M c s) ≡ countOf s + added share blank M c s
+  call-count (subdivide amount) (pending N) = grown-count N amount (leb (N .n + amount) 12)
+  call-count (subdivide amount) (settled N F) = omega arith
+  call-count (calculate f) (pending N) = omega arith
+  call-count (calculate f) (settled N F) = omega arith
+  call-count reopen (pending N) = omega arith
+  call-count reopen (settled N F) = omega arith
+  call-count (ask a) s = omega arith
+
+  after-count : (cs : List (Call Point)) (s : State Point) → countOf (after share blank M cs s) ≡ countOf s + addedBy share blank M cs s
+  after-count [] s = omega arith
+  after-count (c ∷ cs) s =
+      let e = after-count cs (afterCall share blank M c s) in
+      let d = call-count c s in
+      omega arith
+
+  pub counted :
+      (N : Numbering) (F : List Point) (r : Run share blank M N F) → N .n ≡ r .n + addedBy share blank M (r .calls) (pending (r .first))
+  counted N F r =
+      sym (ap countOf (r .leads)) ∙ after-count (r .calls) (pending (r .first))
+      ∙ ap (λ k. k + addedBy share blank M (r .calls) (pending (r .first))) (made-count (length (M .points)) (M .edges) (M .triangles) (r .n) (r .first) (r .making))
 
   pub accepted-base : (N : Numbering) (F : List Point) → Run share blank M N F → Accepted (length (M .points)) (M .edges) (M .triangles)
   accepted-base N F r = made-accepted (length (M .points)) (M .edges) (M .triangles) (r .n) (r .first) (r .making)

@@ -7,7 +7,8 @@ use Rattle.shape.specs.declared.triangle.Triangle.{Triangle}
 use Rattle.mesh.specs.Examples.{one-triangle, square}
 use Rattle.mesh.specs.Numbering.{Numbering, made, grown, blank as none-made}
 use Rattle.points.specs.Calculating.{Meaning, calculated}
-use Rattle.points.specs.Runs.{Buffer, emptied}
+use Rattle.points.specs.Runs.{Buffer, emptied, Call, subdivide, calculate, reopen, ask, pending, settled, after, addedBy}
+use Rattle.mesh.specs.Calls.{all-faces}
 use Rattle.points.specs.Promises.{Run, SameBase, pointFaces}
 
 pub data Term : Type 0 where
@@ -39,6 +40,10 @@ bufferAt M N x = getD (buffer M N) x blank
 abbrev pub any-buffer : Buffer Term
 any-buffer = record { places = replicate 3360 blank; long = length-replicate 3360 blank }
 
+-- calculated, asked, reopened, subdivided by 3, refused 9 more, calculated again
+abbrev pub square-calls : List (Call Term)
+square-calls = calculate any-buffer ∷ ask (all-faces 24) ∷ reopen ∷ subdivide 3 ∷ subdivide 9 ∷ calculate any-buffer ∷ []
+
 pub record Examples : Type 0 where
   -- n = 2: edge ab runs from point 2 to point 1, bc from 1 to 0; One is half(ab0, bc1)
   pub ab0 : bufferAt triangle-base (made 3 3 1 2) 3 ≡ between (base 2) (base 1) (0, 2)
@@ -58,6 +63,10 @@ pub record Examples : Type 0 where
       ≡ pointFaces blank triangle-base (made 3 3 1 2) (buffer triangle-base (made 3 3 1 2))
   -- the square's second triangle reads edge 0, from point 2 to point 0, backward: its ab0 is the last of it
   pub backward : bufferAt square-base (made 4 5 2 2) 15 ≡ half (between (base 2) (base 0) (1, 2)) (between (base 2) (base 3) (1, 2))
-  -- the promises speak of this: made at 1, calculated, reopened, subdivided by 3, refused 9 more, calculated again
+  -- the promises speak of this: made at 1, and then these calls
+  pub square-after :
+      after share blank square-base square-calls (pending (made 4 5 2 1))
+      ≡ settled (grown 3 (made 4 5 2 1)) (calculated share blank square-base (grown 3 (made 4 5 2 1)) (any-buffer .places))
+  pub square-added : addedBy share blank square-base square-calls (pending (made 4 5 2 1)) ≡ 3
   pub square-run : Run share blank square-base (grown 3 (made 4 5 2 1)) (calculated share blank square-base (grown 3 (made 4 5 2 1)) (any-buffer .places))
-  pub square-same : SameBase (λ p q. p ≡ q) square-base square-base
+  pub square-same : SameBase share (λ p q. p ≡ q) square-base square-base

@@ -2,7 +2,7 @@
 use mathlib.Core.Path.{_≡_}
 use mathlib.Core.List.{List, [], _∷_, _++_, map}
 use mathlib.Core.Bool.{Bool}
-use Prim.Native.Nat.{ℕ, _≤_}
+use Prim.Native.Nat.{ℕ, _+_, _≤_, _<_}
 use lib.Dec.{T, eqb}
 use lib.Ieee.{Float}
 use lib.ListN.{length}
@@ -10,15 +10,17 @@ use Rattle.std.specs.declared.result.Result.the-variants.{Ok}
 use Rattle.pattern.specs.Ring.{Face, mapFace}
 use Rattle.pattern.specs.Sides.{count, faceSides}
 use Rattle.point.specs.declared.Vec3A.{Vec3A}
+use Rattle.shape.specs.Lists.{Each}
 use Rattle.shape.specs.Listing.{share as floatShare}
 use Rattle.mesh.specs.Calls.{all-faces, all-lines, numbersWritten, stripsWritten}
-use Rattle.mesh.specs.Faces.{faces, triples, SideOnce}
+use Rattle.mesh.specs.Faces.{faces, patches, triples, SideOnce}
 use Rattle.mesh.specs.Making.{Making}
-use Rattle.mesh.specs.Numbering.{Numbering, Counted}
+use Rattle.mesh.specs.Numbering.{Numbering, Counted, edgeOf}
 use Rattle.mesh.specs.Sinks.{Sink, Writes}
 use Rattle.mesh.specs.Strips.{shownLess, ShownOnce}
 use Rattle.points.specs.Calculating.{Meaning, at}
-use Rattle.points.specs.Runs.{Call, pending, settled, after}
+use Rattle.points.specs.Places.{cornerPoint, PlacedAs}
+use Rattle.points.specs.Runs.{Call, pending, settled, after, addedBy}
 
 -- a making at n that is accepted, and a list of calls that leads from it to a settled mesh of the numbering N with the points F
 pub record Run {Point Frac : Type 0} (share : ℕ → ℕ → Frac) (blank : Point) (M : Meaning Point Frac) (N : Numbering) (F : List Point) : Type 0 where
@@ -33,6 +35,22 @@ abbrev pub Vertices-of-runs : Type 0 → Type 0 → Type 0
 Vertices-of-runs Point Frac =
     (share : ℕ → ℕ → Frac) (blank : Point) (M : Meaning Point Frac) (N : Numbering) (F : List Point) → Run share blank M N F
     → Counted (length (M .points)) (M .edges) (M .triangles) N
+
+-- the count is the number of the making plus the accepted amounts, and at most 12
+abbrev pub Count-of-runs : Type 0 → Type 0 → Type 0
+Count-of-runs Point Frac =
+    (share : ℕ → ℕ → Frac) (blank : Point) (M : Meaning Point Frac) (N : Numbering) (F : List Point) (r : Run share blank M N F)
+    → (N .n ≡ r .n + addedBy share blank M (r .calls) (pending (r .first))) × (N .n ≤ 12)
+
+-- Which points a settled mesh has: at the vertex of each spot the point of its place.
+pub record Placed {Point Frac : Type 0} (share : ℕ → ℕ → Frac) (blank : Point) (M : Meaning Point Frac) (N : Numbering) (F : List Point) : Type 0 where
+  pub long : length F ≡ 3360
+  pub corner : (x : ℕ) → x < length (M .points) → at blank F x ≡ cornerPoint blank M x
+  pub spots : Each (PlacedAs share blank M F (N .n) (edgeOf N)) (patches (M .triangles) N)
+
+abbrev pub Placed-of-runs : Type 0 → Type 0 → Type 0
+Placed-of-runs Point Frac =
+    (share : ℕ → ℕ → Frac) (blank : Point) (M : Meaning Point Frac) (N : Numbering) (F : List Point) → Run share blank M N F → Placed share blank M N F
 
 -- Each side once: of the faces that a call for all of them writes, whatever its buffer's length.
 abbrev pub Faces-of-runs : Type 0 → Type 0 → Type 0
@@ -59,12 +77,12 @@ module _ {X Y : Type 0} (R : X → Y → Type 0) where
   abbrev pub BothFace : Face X → Face Y → Type 0
   BothFace p q = R (p .0) (q .0) × R (p .1) (q .1) × R (p .2) (q .2)
 
--- two bases are equal, where R says when two points are
-pub record SameBase {Point Frac : Type 0} (R : Point → Point → Type 0) (M M′ : Meaning Point Frac) : Type 0 where
+-- two bases are equal, where R says when two points are; the rule between is asked at the fractions (i + 1) / (n + 1) only
+pub record SameBase {Point Frac : Type 0} (share : ℕ → ℕ → Frac) (R : Point → Point → Type 0) (M M′ : Meaning Point Frac) : Type 0 where
   pub points : Both R (M .points) (M′ .points)
   pub triangles : M .triangles ≡ M′ .triangles
   pub edges : M .edges ≡ M′ .edges
-  pub between : (p p′ q q′ : Point) → R p p′ → R q q′ → (s : Frac) → R (M .between p q s) (M′ .between p′ q′ s)
+  pub between : (p p′ q q′ : Point) → R p p′ → R q q′ → (i n : ℕ) → R (M .between p q (share i n)) (M′ .between p′ q′ (share i n))
   pub half : (p p′ q q′ : Point) → R p p′ → R q q′ → R (M .half p q) (M′ .half p′ q′)
 
 -- the whole face list, with each vertex's point in F
@@ -76,7 +94,7 @@ pointFaces blank M N F = map (mapFace (at blank F)) (faces (M .triangles) N)
 abbrev pub FixedBy : (Point Frac : Type 0) → (ℕ → ℕ → Frac) → (Point → Point → Type 0) → Type 0
 FixedBy Point Frac share R =
     (blank : Point) (M M′ : Meaning Point Frac) (N N′ : Numbering) (F F′ : List Point)
-    → SameBase R M M′ → Run share blank M N F → Run share blank M′ N′ F′ → N .n ≡ N′ .n
+    → SameBase share R M M′ → Run share blank M N F → Run share blank M′ N′ F′ → N .n ≡ N′ .n
     → Both (BothFace R) (pointFaces blank M N F) (pointFaces blank M′ N′ F′)
 
 -- under equality, and under any test of points

@@ -4,7 +4,7 @@ ghost use Rattle.points.specs.Examples.{Examples};
 ghost use Rattle.points.specs.Recorded.{All-agree};
 ghost use Rattle.points.specs.Filling.{Filling-stands};
 ghost use Rattle.points.specs.Places.{Points-placed};
-ghost use Rattle.points.specs.Promises.{Vertices-of-runs, Faces-of-runs, Strips-of-runs, Points-of-runs, Vec3A-of-runs};
+ghost use Rattle.points.specs.Promises.{Count-of-runs, Placed-of-runs, Vertices-of-runs, Faces-of-runs, Strips-of-runs, Points-of-runs, Vec3A-of-runs};
 
 // After calculating, each vertex has the point of its place, and what is no vertex is untouched.
 pub fn points_placed<P, F>() -> u8
@@ -23,6 +23,20 @@ pub fn along_stands<P, F>() -> u8
 // Whatever the calls: every number below the total is one vertex, and the total is known from the base and the count.
 pub fn vertices_of_runs<P, F>() -> u8
     ensures { λ _. ⌜ Vertices-of-runs P F ⌝ }
+{
+    0
+}
+
+// Whatever the calls: the count is the number of the making plus the accepted amounts.
+pub fn count_of_runs<P, F>() -> u8
+    ensures { λ _. ⌜ Count-of-runs P F ⌝ }
+{
+    0
+}
+
+// Whatever the calls: a settled mesh has at each vertex the point of its place.
+pub fn placed_of_runs<P, F>() -> u8
+    ensures { λ _. ⌜ Placed-of-runs P F ⌝ }
 {
     0
 }

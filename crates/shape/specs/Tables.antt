@@ -2,7 +2,7 @@
 use Prim.Native.Nat.{ℕ}
 use mathlib.Core.List.{List, [], _∷_}
 use Rattle.point.specs.declared.Vec3A.{Vec3A}
-use Rattle.point.specs.Points.{point, nought, minus-half, root, minus-root, one, minus-one}
+use Rattle.point.specs.Points.{point, nought, minus-half, half-root, minus-half-root, one, minus-one}
 use Rattle.shape.specs.declared.triangle.Triangle.{Triangle}
 
 abbrev pub triangle : ℕ → ℕ → ℕ → ℕ → ℕ → ℕ → Triangle
@@ -10,7 +10,7 @@ triangle a b c ab bc ca = record { a = a; b = b; c = c; ab = ab; bc = bc; ca = c
 
 -- in the plane of x and z, on a circle of radius 1
 abbrev pub trianglePoints : List Vec3A
-trianglePoints = point minus-root nought minus-half ∷ point root nought minus-half ∷ point nought nought one ∷ []
+trianglePoints = point minus-half-root nought minus-half ∷ point half-root nought minus-half ∷ point nought nought one ∷ []
 
 abbrev pub triangleTriangles : List Triangle
 triangleTriangles = triangle 2 1 0 0 1 2 ∷ []

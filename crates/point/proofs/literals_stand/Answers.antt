@@ -8,9 +8,9 @@ returns c =
     record {
       nought-is = refl;
       half-is = refl;
-      root-is = refl;
+      half-root-is = refl;
       one-is = refl;
       minus-half-is = refl;
-      minus-root-is = refl;
+      minus-half-root-is = refl;
       minus-one-is = refl;
     }
