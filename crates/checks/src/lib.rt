@@ -5,4 +5,6 @@ mod interpolation;
 mod orders;
 mod pyramid;
 #[cfg(test)]
+mod sinks;
+#[cfg(test)]
 mod verdicts;

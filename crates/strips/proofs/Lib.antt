@@ -1,0 +1,4 @@
+pub mod Marks
+pub mod Refusing
+pub mod Starts
+pub mod Fitting

@@ -1,0 +1,4 @@
+pub mod Taking
+pub mod Marks
+pub mod Starts
+pub mod Writing
