@@ -384,14 +384,6 @@ const NINE: u32 = 0x4110_0000;
 
 const UNTOUCHED: [u32; 3] = [NINE, NINE, NINE];
 
-fn point(x: u32, y: u32, z: u32) -> Vec3A {
-    Vec3A::new(
-        f32_from_bits_with_nan(x),
-        f32_from_bits_with_nan(y),
-        f32_from_bits_with_nan(z),
-    )
-}
-
 fn bits(p: Vec3A) -> [u32; 3] {
     [
         f32_to_bits_with_nan(p.x),
@@ -404,8 +396,8 @@ fn bits(p: Vec3A) -> [u32; 3] {
 fn special_values_as_the_crate_has_them() -> Result<(), Fail> {
     for r in &ROWS {
         let p = f32_from_bits_with_nan(r[0]);
-        let a = point(r[1], r[2], r[3]);
-        let b = point(r[4], r[5], r[6]);
+        let a = Vec3A::from_bits(r[1], r[2], r[3]);
+        let b = Vec3A::from_bits(r[4], r[5], r[6]);
         check_eq(bits(lerp(a, b, p)), [r[7], r[8], r[9]])?;
         check_eq(bits(lerp_half(a, b)), [r[10], r[11], r[12]])?;
     }
@@ -416,7 +408,7 @@ fn special_values_as_the_crate_has_them() -> Result<(), Fail> {
 fn along<S: BaseShape>(base: &S, list: &[u32], want: &[[u32; 3]; 6]) -> Result<(), Fail> {
     let a = Vec3A::new(1.0, -2.5, 1.0e6);
     let b = Vec3A::new(0.3, 7.75, -1.0e6);
-    let mut buffer = [point(NINE, NINE, NINE); 6];
+    let mut buffer = [Vec3A::from_bits(NINE, NINE, NINE); 6];
     base.interpolate_multiple(a, b, list, &mut buffer)?;
     for i in 0..6 {
         check_eq(bits(buffer[i]), want[i])?;
@@ -454,7 +446,7 @@ fn listings_as_the_crate_has_them() -> Result<(), Fail> {
 // The refusal of a listing over six points that hold nines, which it must leave.
 fn refused(list: &[u32]) -> Result<Refusal, Fail> {
     let a = Vec3A::new(1.0, -2.5, 1.0e6);
-    let mut buffer = [point(NINE, NINE, NINE); 6];
+    let mut buffer = [Vec3A::from_bits(NINE, NINE, NINE); 6];
     let Err(e) = SquareBase.interpolate_multiple(a, a, list, &mut buffer) else {
         return Err(Fail::new("accepted"));
     };
@@ -501,9 +493,9 @@ fn the_longest_listing() -> Result<(), Fail> {
 
 #[test]
 fn points_are_equal_by_bits() -> Result<(), Fail> {
-    let zero = point(0, 0, 0);
-    check(zero.same_bits(point(0, 0, 0)))?;
-    check(!zero.same_bits(point(0x8000_0000, 0, 0)))?;
-    check(!zero.same_bits(point(0, 0, 1)))?;
-    check(point(0x7fc0_0000, 1, 2).same_bits(point(0xffc0_0001, 1, 2)))
+    let zero = Vec3A::from_bits(0, 0, 0);
+    check(zero.same_bits(Vec3A::from_bits(0, 0, 0)))?;
+    check(!zero.same_bits(Vec3A::from_bits(0x8000_0000, 0, 0)))?;
+    check(!zero.same_bits(Vec3A::from_bits(0, 0, 1)))?;
+    check(Vec3A::from_bits(0x7fc0_0000, 1, 2).same_bits(Vec3A::from_bits(0xffc0_0001, 1, 2)))
 }

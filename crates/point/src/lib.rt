@@ -1,7 +1,9 @@
 // A point of three f32 components.
 ghost use mathlib.Core.Bool.{true};
 ghost use mathlib.Core.Path.{_≡_};
+ghost use lib.Ieee.{binary32, ofBits};
 ghost use Rattle.point.specs.Points.{point, plus, times, scaled, Literals};
+use std::num::f32_from_bits_with_nan;
 use std::num::f32_to_bits_with_nan;
 use std::ops::Add;
 use std::ops::Mul;
@@ -20,6 +22,17 @@ impl Vec3A {
         ensures { λ r. ⌜ r ≡ point x y z ⌝ }
     {
         Vec3A { x, y, z }
+    }
+
+    // The point whose components have these bits; those of a NaN give a NaN.
+    pub fn from_bits(x: u32, y: u32, z: u32) -> Vec3A
+        ensures { λ r. ⌜ r ≡ point (ofBits binary32 x) (ofBits binary32 y) (ofBits binary32 z) ⌝ }
+    {
+        Vec3A {
+            x: f32_from_bits_with_nan(x),
+            y: f32_from_bits_with_nan(y),
+            z: f32_from_bits_with_nan(z),
+        }
     }
 
     // Whether the two are equal by the bits of their components, all NaN alike: -0 is not 0.
