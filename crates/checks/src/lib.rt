@@ -1,8 +1,6 @@
-// Tests of the layers, from outside.
+// Tests of base shapes, of the verdict on them, and of sinks.
 #[cfg(test)]
 mod interpolation;
-#[cfg(test)]
-mod orders;
 mod pyramid;
 #[cfg(test)]
 mod sinks;

@@ -1,0 +1,3 @@
+// Tests of orders, and of what is said to people.
+#[cfg(test)]
+mod orders;
