@@ -9,6 +9,7 @@ use Rattle.std.specs.declared.option.Option.{Option}
 use Rattle.std.specs.declared.option.Option.the-variants.{Some, None}
 use Rattle.refusal.specs.declared.Refusal.{Refusal}
 use Rattle.refusal.specs.declared.Refusal.the-variants.{NoTriangle, BufferTooShort, NumberTooLarge, SinkFull, DataTooShort}
+use Rattle.questions.proofs.Tests.{is-true}
 use Rattle.mesh.specs.Blank.{BlankMesh, Blank-stands}
 use Rattle.mesh.specs.Calls.{Ask, triangle-faces, all-faces, triangle-lines, major-lines, all-lines, fill, firstNo, unless, refusal, numbersWritten, stripsWritten}
 use Rattle.mesh.specs.Faces.{allFaceNumbers}
@@ -43,10 +44,6 @@ passes b r e = ap (λ v. unless v r) e
 
 both-pass : (p q : Option Refusal) → p ≡ None → q ≡ None → firstNo p q ≡ None
 both-pass p q d e = ap (λ v. firstNo v q) d ∙ e
-
-is-true : (b : Bool) → T b → b ≡ true
-is-true true t = refl
-is-true false t = absurd t
 
 below-none : (t : ℕ) → ltb t 0 ≡ false
 below-none t = grind arith

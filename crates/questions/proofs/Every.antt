@@ -6,11 +6,8 @@ use mathlib.Core.List.{List, [], _∷_}
 use native.Mathlib.Omega.{arith}
 use lib.ListN.{length, getD, drop}
 use Rattle.std.proofs.shelf.Lists.{drop-more}
+use Rattle.shape.proofs.Booleans.{and-no}
 use Rattle.questions.specs.Tests.{every, some}
-
-pub and-no : (b : Bool) → (b && false) ≡ false
-and-no true = refl
-and-no false = refl
 
 or-yes : (b : Bool) → (b || true) ≡ true
 or-yes true = refl

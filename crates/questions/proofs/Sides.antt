@@ -59,6 +59,10 @@ tick-add : (b : Bool) (m n : ℕ) → tick b (m + n) ≡ tick b m + n
 tick-add true m n = sym (suc-add m n)
 tick-add false m n = refl
 
+pub tick-yes : (b : Bool) (n : ℕ) → T b → 1 ≤ tick b n
+tick-yes true n t = omega arith
+tick-yes false n t = absurd t
+
 module _ (e p q : ℕ) where
   pub way-append : (us vs : List Use) → wayCount e p q (us ++ vs) ≡ wayCount e p q us + wayCount e p q vs
   way-append [] vs = sym (zero-add (wayCount e p q vs))
@@ -109,10 +113,6 @@ module _ (e p q : ℕ) where
   tick-more : (b : Bool) (n : ℕ) → n ≤ tick b n
   tick-more true n = omega arith
   tick-more false n = omega arith
-
-  tick-yes : (b : Bool) (n : ℕ) → T b → 1 ≤ tick b n
-  tick-yes true n t = omega arith
-  tick-yes false n t = absurd t
 
   pub way-counted : (us : List Use) (u : Use) → In u us → Walks u → 1 ≤ wayCount e p q us
   way-counted [] u i w = absurd i

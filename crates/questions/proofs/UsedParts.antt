@@ -16,6 +16,7 @@ use Rattle.shape.specs.Verdict.{FirstLacking, EdgeUsed, PointUsed}
 use Rattle.questions.specs.declared.used.Part.the-variants.{Edge, Point}
 use Rattle.questions.specs.Tests.{some, touches, isUsed, firstLackFrom, firstLack}
 use Rattle.questions.proofs.Tests.{or-out, or-left, or-right, eq→eqb, Decides}
+use Rattle.questions.proofs.Sides.{tick-yes}
 use Rattle.questions.proofs.Stepwise.{order}
 
 abbrev pub Lacking : ℕ → (ℕ → Type 0) → Option ℕ → Type 0
@@ -63,10 +64,6 @@ one-lack count P (Some m) (Some n) f g = ap Some (go (order m n))
 tick-or : (b : Bool) (n : ℕ) → 1 ≤ tick b n → T b ⊎ (1 ≤ n)
 tick-or true n h = inl tt
 tick-or false n h = inr h
-
-tick-yes : (b : Bool) (n : ℕ) → T b → 1 ≤ tick b n
-tick-yes true n t = omega arith
-tick-yes false n t = absurd t
 
 tick-more : (b : Bool) (n : ℕ) → 1 ≤ n → 1 ≤ tick b n
 tick-more true n h = omega arith

@@ -8,7 +8,8 @@ use Rattle.std.proofs.shelf.Lists.{at-drop-all}
 use Rattle.shape.specs.Tables.{triangle}
 use Rattle.shape.specs.declared.triangle.Triangle.{Triangle}
 use Rattle.questions.specs.Tests.{every, pair, alone}
-use Rattle.questions.proofs.Every.{every-more, every-no, and-no}
+use Rattle.shape.proofs.Booleans.{and-no}
+use Rattle.questions.proofs.Every.{every-more, every-no}
 use Rattle.questions.proofs.question.Question.passes.Needs as need
 
 pub returns-then-not-pair : need.returns-then-not-pair
