@@ -1,4 +1,6 @@
 // Tests of base shapes, of the verdict on them, and of sinks.
+#![tactic(auto)]
+
 #[cfg(test)]
 mod interpolation;
 mod pyramid;

@@ -1,4 +1,6 @@
 // Reads orders from standard input, and answers each check on standard output.
+#![tactic(auto)]
+
 use order::reader::{Problem, Reader};
 use std::io::{BufRead, BufReader, BufWriter, ErrorKind, Write};
 use std::{fmt, io};

@@ -1,4 +1,6 @@
 // The faces of one triangle, written into a lent buffer.
+#![tactic(auto)]
+
 mod formulas;
 mod put;
 mod ring;

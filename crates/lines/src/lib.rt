@@ -1,4 +1,6 @@
 // The line strips of one triangle and of one edge, written to any sink.
+#![tactic(auto)]
+
 pub mod edge;
 mod one_strip;
 mod ring_strip;

@@ -1,4 +1,6 @@
 // The faces and the line strips of a whole mesh, and the promises proved of them.
+#![tactic(auto)]
+
 pub mod formulas;
 
 ghost use Rattle.mesh.specs.Blank.{BlankStands};

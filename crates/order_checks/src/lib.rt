@@ -1,3 +1,5 @@
 // Tests of orders, and of what is said to people.
+#![tactic(auto)]
+
 #[cfg(test)]
 mod orders;

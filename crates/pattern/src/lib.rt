@@ -1,4 +1,6 @@
 // The laws of one triangle's faces, strips and contents.
+#![tactic(auto)]
+
 ghost use Rattle.pattern.specs.Amounts.{AmountsStand};
 ghost use Rattle.pattern.specs.Laws.{SpotsSound, StepsSound};
 

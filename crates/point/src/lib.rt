@@ -1,4 +1,6 @@
 // A point of three f32 components.
+#![tactic(auto)]
+
 ghost use Rattle.std.specs.Prelude.{◌≡◌, true, from_bits};
 ghost use Rattle.std.specs.Float.{binary32};
 ghost use Rattle.point.specs.Points.{point, plus, times, scaled, Literals};

@@ -1,4 +1,6 @@
 // The points of a mesh, and the promises proved of every run of calls.
+#![tactic(auto)]
+
 ghost use Rattle.points.specs.Calculating.{AlongStands};
 ghost use Rattle.points.specs.Examples.{Examples};
 ghost use Rattle.points.specs.Recorded.{AllAgree};

@@ -1,4 +1,6 @@
 // Base shapes: points, triangles, edges and the rules by which points are interpolated.
+#![tactic(auto)]
+
 pub mod base_shape;
 pub mod list_base;
 pub mod listing;

@@ -1,4 +1,6 @@
 // The plain table of a mesh.
+#![tactic(auto)]
+
 pub mod forward;
 pub mod grow;
 mod lists;

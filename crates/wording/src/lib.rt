@@ -1,4 +1,6 @@
 // What is said to people of orders: reports and problems in words.
+#![tactic(auto)]
+
 pub mod problem_text;
 pub mod report_text;
 
