@@ -10,10 +10,10 @@ pub returns : goal.returns
 returns c =
     let a = c.args.a in
     let b = c.args.b in
-    let p = c.f32-to-bits-with-nan in
-    let q = c.f32-to-bits-with-nan-2 in
-    let fa : fits binary32 a ≡ true = c.well-formed.0.1 in
-    let fb : fits binary32 b ≡ true = c.well-formed.1.0.1 in
+    let p = c.f32_to_bits_with_nan in
+    let q = c.f32_to_bits_with_nan-2 in
+    let fa : fits binary32 a ≡ true = c.well_formed.0.1 in
+    let fb : fits binary32 b ≡ true = c.well_formed.1.0.1 in
     record {
       sound = λ e.
           sym (of_bits-to_bits binary32 a (so (fits binary32 a) fa))
