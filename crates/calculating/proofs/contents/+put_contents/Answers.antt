@@ -9,25 +9,25 @@ use Rattle.calculating.specs.ViewWrites.{Below}
 use Rattle.calculating.proofs.InnerRing.{more-writes, ring_ready, deep}
 use Rattle.calculating.proofs.contents.+put_contents.Goals as goal
 
-pub put-edges-requires : goal.put-edges-requires
-put-edges-requires g t c =
+pub put_edges-requires : goal.put_edges-requires
+put_edges-requires g t c =
     let v = c.args.view.now in
     let b = c.requires.below in
     let n = length c.args.points.now in
-    let r = ring_ready v.rings.now v.depth (length (read v.ab)) c.in-More.i n v.inner c.ring-view-inner.result c.in-More.is
-    c.requires.whole.goes c.ring-view-inner.ensures b.some b.within in
-    let e : n ≡ length c.put-tips-in-More.new.points = search rules in
-    record { whole = r.0; below = subst (λ (k : ℕ). Below k c.ring-view-inner.result) e r.1 }
+    let r = ring_ready v.rings.now v.depth (length (read v.ab)) c.in-More.i n v.inner c.ring_view-inner.result c.in-More.is
+    c.requires.whole.goes c.ring_view-inner.ensures b.some b.within in
+    let e : n ≡ length c.put_tips-in-More.new.points = search rules in
+    record { whole = r.0; below = subst (λ (k : ℕ). Below k c.ring_view-inner.result) e r.1 }
 
-pub put-contents-requires : goal.put-contents-requires
-put-contents-requires g t c κs within =
+pub put_contents-requires : goal.put_contents-requires
+put_contents-requires g t c κs within =
     let v = c.args.view.now in
     let b = c.requires.below in
     let n = length c.args.points.now in
-    let r = ring_ready v.rings.now v.depth (length (read v.ab)) c.in-More.i n v.inner c.ring-view-inner.result c.in-More.is
-    c.requires.whole.goes c.ring-view-inner.ensures b.some b.within in
-    let e : n ≡ length c.put-edges.new.points = search rules in
-    (search rules, (within, (r.0, subst (λ (k : ℕ). Below k c.ring-view-inner.result) e r.1)))
+    let r = ring_ready v.rings.now v.depth (length (read v.ab)) c.in-More.i n v.inner c.ring_view-inner.result c.in-More.is
+    c.requires.whole.goes c.ring_view-inner.ensures b.some b.within in
+    let e : n ≡ length c.put_edges.new.points = search rules in
+    (search rules, (within, (r.0, subst (λ (k : ℕ). Below k c.ring_view-inner.result) e r.1)))
 
 pub returns-in-More : goal.returns-in-More
 returns-in-More g t c =
@@ -43,9 +43,9 @@ returns-in-More g t c =
     let bc : ℕ → ℕ = λ j. get_or (read v.bc) j 0 in
     let ca : ℕ → ℕ = λ j. get_or (read v.ca) j 0 in
     let f : Fits rs d m (kind.More i) = subst (λ (x : TriangleContents). Fits rs d m x) c.in-More.is c.requires.whole.goes in
-    let w = c.ring-view-inner.result in
-    let tips : c.put-tips-in-More.new.points ≡ wrote between half (tip_writes m ab bc ca w.a w.b w.c) c.args.points.now
-    = c.put-tips-in-More.ensures ∙ ap (λ k. wrote between half (tip_writes k ab bc ca w.a w.b w.c) c.args.points.now) c.len-m.ensures in
-    more-writes between half rs d i m ab bc ca w (deep rs d m i f) c.ring-view-inner.ensures f c.args.points.now
-    c.put-tips-in-More.new.points c.put-edges.new.points c.put-contents.new.points tips c.put-edges.ensures c.put-contents.ensures
+    let w = c.ring_view-inner.result in
+    let tips : c.put_tips-in-More.new.points ≡ wrote between half (tip_writes m ab bc ca w.a w.b w.c) c.args.points.now
+    = c.put_tips-in-More.ensures ∙ ap (λ k. wrote between half (tip_writes k ab bc ca w.a w.b w.c) c.args.points.now) c.len-m.ensures in
+    more-writes between half rs d i m ab bc ca w (deep rs d m i f) c.ring_view-inner.ensures f c.args.points.now
+    c.put_tips-in-More.new.points c.put_edges.new.points c.put_contents.new.points tips c.put_edges.ensures c.put_contents.ensures
     ∙ sym (ap (λ x. wrote between half (contents_writes m ab bc ca (held_view rs d x)) c.args.points.now) c.in-More.is)

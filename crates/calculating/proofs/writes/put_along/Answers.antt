@@ -7,5 +7,5 @@ returns g c =
     let base = c.args.base.now in
     let old = c.args.points.now in
     let l = c.args.vertices.now in
-    listed (g.S.BaseShape.between base) (g.S.BaseShape.half base) l c.args.p c.args.q old c.interpolate-multiple.new.buffer
-    (can_list l (length old) c.requires.few c.requires.within) c.interpolate-multiple.ensures.1
+    listed (g.S.BaseShape.between base) (g.S.BaseShape.half base) l c.args.p c.args.q old c.interpolate_multiple.new.buffer
+    (can_list l (length old) c.requires.few c.requires.within) c.interpolate_multiple.ensures.1

@@ -8,9 +8,9 @@ use Rattle.faces.proofs.ring.write_ring.Goals as goal
 pub returns-in-1 : goal.returns-in-1
 returns-in-1 c =
     let e : 1 ≡ length (read c.args.view.now.ab) = omega arith in
-    renamed (ap (λ n. ring_faces n (ring_of_view c.args.view.now)) e) c.write-first.ensures
+    renamed (ap (λ n. ring_faces n (ring_of_view c.args.view.now)) e) c.write_first.ensures
 
 pub returns-in-2 : goal.returns-in-2
 returns-in-2 c =
     let e : 2 ≡ length (read c.args.view.now.ab) = omega arith in
-    renamed (ap (λ n. ring_faces n (ring_of_view c.args.view.now)) e) c.write-second.ensures
+    renamed (ap (λ n. ring_faces n (ring_of_view c.args.view.now)) e) c.write_second.ensures

@@ -13,24 +13,24 @@ use Rattle.faces.proofs.triangle.+write_contents.Goals as goal
 abbrev faces_of : RingView → TriangleContents → List (Face ℕ)
 faces_of w t = contents_faces (held_view w.rings.now w.depth t)
 
-pub write-ring-next-requires : goal.write-ring-next-requires
-write-ring-next-requires t c =
+pub write_ring-next-requires : goal.write_ring-next-requires
+write_ring-next-requires t c =
     let w = c.args.view.now in
-    let v = c.ring-view-ring.result in
+    let v = c.ring_view-ring.result in
     let f = c.requires.fits in
-    let h : Within w v = within w v f.0 c.in-More.i c.in-More.is f.1 c.ring-view-ring.ensures in
+    let h : Within w v = within w v f.0 c.in-More.i c.in-More.is f.1 c.ring_view-ring.ensures in
     let r : c.args.at + 3 * length (inner_faces w) ≤ length c.args.out.now = c.requires.room in
     record { whole = h.whole; room = omega (arith, h.lengths) }
 
-pub write-contents-requires : goal.write-contents-requires
-write-contents-requires t c =
+pub write_contents-requires : goal.write_contents-requires
+write_contents-requires t c =
     let w = c.args.view.now in
-    let v = c.ring-view-ring.result in
+    let v = c.ring_view-ring.result in
     let f = c.requires.fits in
-    let h : Within w v = within w v f.0 c.in-More.i c.in-More.is f.1 c.ring-view-ring.ensures in
+    let h : Within w v = within w v f.0 c.in-More.i c.in-More.is f.1 c.ring_view-ring.ensures in
     let r : c.args.at + 3 * length (inner_faces w) ≤ length c.args.out.now = c.requires.room in
-    let e : length c.write-ring-next.new.out ≡ length c.args.out.now = as_long c.write-ring-next.ensures in
-    let q : c.write-ring-next.result ≡ c.args.at + 3 * length (own_faces v) = c.write-ring-next.ensures.next_is in
+    let e : length c.write_ring-next.new.out ≡ length c.args.out.now = as_long c.write_ring-next.ensures in
+    let q : c.write_ring-next.result ≡ c.args.at + 3 * length (own_faces v) = c.write_ring-next.ensures.next_is in
     let less = h.less in
     (search rules, ((length (read v.ab), h.whole.goes), omega (arith, h.lengths)))
 
@@ -51,6 +51,6 @@ returns-in-Six t c =
 pub returns-in-More : goal.returns-in-More
 returns-in-More t c =
     let f = c.requires.fits in
-    let h : Within c.args.view.now c.ring-view-ring.result =
-    within c.args.view.now c.ring-view-ring.result f.0 c.in-More.i c.in-More.is f.1 c.ring-view-ring.ensures in
-    renamed (sym h.faces) (glue c.write-ring-next.ensures c.write-contents.ensures)
+    let h : Within c.args.view.now c.ring_view-ring.result =
+    within c.args.view.now c.ring_view-ring.result f.0 c.in-More.i c.in-More.is f.1 c.ring_view-ring.ensures in
+    renamed (sym h.faces) (glue c.write_ring-next.ensures c.write_contents.ensures)

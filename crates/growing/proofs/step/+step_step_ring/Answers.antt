@@ -13,21 +13,21 @@ step-returns-in-Six t c =
     let d = c.args.depth in
     let h = c.args.next in
     let x = c.in-Six in
-    let g = c.new-ring.result in
+    let g = c.new_ring.result in
     subst (λ (y : TriangleContents). Steps rs b d 1 y h (set rs b g) (kind.More b) (h + 4)) (sym x.is)
-    (λ m. six_moves rs b d m x.a x.b x.c x.ab x.bc x.ca h g c.new-ring.ensures)
+    (λ m. six_moves rs b d m x.a x.b x.c x.ab x.bc x.ca h g c.new_ring.ensures)
 
-pub step-ring-step-after-requires : goal.step-ring-step-after-requires
-step-ring-step-after-requires t c =
+pub step_ring-step-after-requires : goal.step_ring-step-after-requires
+step_ring-step-after-requires t c =
     let rs = c.args.rings.now in
     let i = c.args.i in
     let d = c.args.depth in
     let h = c.args.next in
     let m = c.requires.0 in
     let some : 1 ≤ d = some-deep rs i d m h c.requires.1 in
-    (search rules, ((ring_at rs i).len, more_ready rs i d m h c.longer-ring-ring.result c.longer-ring-ring.ensures c.requires.1))
+    (search rules, ((ring_at rs i).len, more_ready rs i d m h c.longer_ring-ring.result c.longer_ring-ring.ensures c.requires.1))
 
-pub step-ring-returns : goal.step-ring-returns
-step-ring-returns t c m =
+pub step_ring-returns : goal.step_ring-returns
+step_ring-returns t c m =
     more_moves c.args.rings.now c.step-after.new.rings c.args.i c.args.depth m c.args.next c.step-after.result
-    c.longer-ring-ring.result c.step-after.new.contents c.longer-ring-ring.ensures c.step-after.ensures
+    c.longer_ring-ring.result c.step-after.new.contents c.longer_ring-ring.ensures c.step-after.ensures

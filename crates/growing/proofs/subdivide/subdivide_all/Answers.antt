@@ -7,8 +7,8 @@ use Rattle.growing.proofs.FromBare.{made_from_bare}
 use Rattle.growing.proofs.Subdividing.{from, ready_from, placed_from, subdivided}
 use Rattle.growing.proofs.subdivide.subdivide_all.Goals as goal
 
-pub step-all-requires : goal.step-all-requires
-step-all-requires c =
+pub step_all-requires : goal.step_all-requires
+step_all-requires c =
     let n = c.args.n in
     let a = c.args.amount in
     let twelve : a ≤ 12 = omega arith in
@@ -16,10 +16,10 @@ step-all-requires c =
     record {
       ready = (
         from n,
-        subst (λ (k : ℕ). ReadyAll c.args.rings.now (from n) k c.args.contents.now) (sym c.steps-for.ensures)
+        subst (λ (k : ℕ). ReadyAll c.args.rings.now (from n) k c.args.contents.now) (sym c.steps_for.ensures)
             (ready_from c.args.rings.now n a c.args.contents.now c.requires.count c.requires.stands.contents),
       );
-      few = (c.requires.limits.few-triangles, omega (arith, c.lengthen-all-next.ensures.next, c.requires.limits.few-vertices));
+      few = (c.requires.limits.few-triangles, omega (arith, c.lengthen_all-next.ensures.next, c.requires.limits.few-vertices));
     }
 
 pub returns : goal.returns
@@ -29,10 +29,10 @@ returns c =
     let es = c.args.edges.now in
     let ts = c.args.contents.now in
     let rs = c.args.rings.now in
-    let e = c.lengthen-all-next in
-    let s = c.step-all in
+    let e = c.lengthen_all-next in
+    let s = c.step_all in
     let v : MovesAll rs (from n) (steps_for n a) ts e.result s.new.rings s.new.contents s.result
-    = subst (λ (k : ℕ). (m : ℕ) → ReadyAll rs m k ts → MovesAll rs m k ts e.result s.new.rings s.new.contents s.result) c.steps-for.ensures
+    = subst (λ (k : ℕ). (m : ℕ) → ReadyAll rs m k ts → MovesAll rs m k ts e.result s.new.rings s.new.contents s.result) c.steps_for.ensures
     s.ensures (from n) (ready_from rs n a ts c.requires.count c.requires.stands.contents) in
     let numbered : numbering (n + a) s.result e.new.edges s.new.contents s.new.rings ≡ grown a (numbering n c.args.total es ts rs)
     = subdivided n a c.args.total e.result s.result (from n) es e.new.edges ts s.new.contents rs s.new.rings e.ensures.vertices

@@ -8,4 +8,4 @@ pub returns : goal.returns
 returns c =
     renamed (omega arith) (ap₂ (long_parts c.args.m (ring_of_view c.args.view.now)) c.inner.ensures c.edge.ensures ∙ long_strip c.args.m (ring_of_view c.args.view.now) c.requires.many.0)
     (then c.run.ensures (then c.run-2.ensures (then c.run-3.ensures
-    (then c.push-all.ensures (then c.zigzag.ensures (then c.zigzag-2.ensures c.zigzag-3.ensures))))))
+    (then c.push_all.ensures (then c.zigzag.ensures (then c.zigzag-2.ensures c.zigzag-3.ensures))))))

@@ -55,17 +55,17 @@ returns g c =
     let o = c.args.offset in
     let first : Sink = g.K.Sink.meaning c.args.sink.now in
     let s : Sink = g.K.Sink.meaning c.loop-number.sink in
-    let t : Sink = g.K.Sink.meaning c.end-strip.new.self in
+    let t : Sink = g.K.Sink.meaning c.end_strip.new.self in
     let free = g.K.Sink.free in
     let h : length xs ≤ i = omega arith in
-    let ok = c.end-strip.ensures.answers ∙ break_taken s (length xs - i) c.loop-number.invariant.1 in
+    let ok = c.end_strip.ensures.answers ∙ break_taken s (length xs - i) c.loop-number.invariant.1 in
     record {
       answers =
           ok
           ∙ sym (ap (λ r. too_large_or r (taken_or_full first (length xs) 1)) (sym c.in-default.ensures)
-          ∙ ap (λ b. cond b (Ok tt) (Err (SinkFull (length xs) 1))) (sym c.if-not-can-take.ensures));
-      accepted = λ q. c.loop-number.invariant.0 t (subst (λ (l : List ℕ). Writes (offset_by o (l ∷ [])) s t) (sym (drop_all i xs h)) (a_break (c.end-strip.ensures.accepted q) nothing));
-      left = λ q. behind (free c.args.sink.now) (free c.loop-number.sink) (free c.end-strip.new.self) c.loop-number.invariant.3 (c.end-strip.ensures.left q);
-      refused = λ e q. absurd (not_both c.end-strip.result tt e ok q);
-      holds = c.end-strip.ensures.holds ∙ c.loop-number.invariant.2;
+          ∙ ap (λ b. cond b (Ok tt) (Err (SinkFull (length xs) 1))) (sym c.if-not-can_take.ensures));
+      accepted = λ q. c.loop-number.invariant.0 t (subst (λ (l : List ℕ). Writes (offset_by o (l ∷ [])) s t) (sym (drop_all i xs h)) (a_break (c.end_strip.ensures.accepted q) nothing));
+      left = λ q. behind (free c.args.sink.now) (free c.loop-number.sink) (free c.end_strip.new.self) c.loop-number.invariant.3 (c.end_strip.ensures.left q);
+      refused = λ e q. absurd (not_both c.end_strip.result tt e ok q);
+      holds = c.end_strip.ensures.holds ∙ c.loop-number.invariant.2;
     }

@@ -16,13 +16,13 @@ loop-t-preserved c =
     let t : Triangle = triangle_at ts i in
     let more : take (i + 1) ts ≡ take i ts ++ (t ∷ []) = take_more ts i no_triangle h in
     let seen = seen_by (take i ts) in
-    let told = c.forward-of.ensures seen c.loop-t.invariant.1 in
-    let long : length c.forward-of.new.done ≡ 96 = search rules in
+    let told = c.forward_of.ensures seen c.loop-t.invariant.1 in
+    let long : length c.forward_of.new.done ≡ 96 = search rules in
     let edges : seen_by (take (i + 1) ts) ≡ t.ca ∷ t.bc ∷ t.ab ∷ seen = ap seen_by more ∙ seen_more [] (take i ts) t in
     let list : forwards (take (i + 1) ts) ≡ forwards (take i ts) ++ (forward_of seen t ∷ []) = ap forwards more ∙ forwards-more [] (take i ts) t in
-    let pushed : vec_items c.push.new.self ≡ vec_items c.loop-t.list ++ (c.forward-of.result ∷ []) = search rules in (
+    let pushed : vec_items c.push.new.self ≡ vec_items c.loop-t.list ++ (c.forward_of.result ∷ []) = search rules in (
       long,
-      subst (λ (l : List ℕ). Marks l c.forward-of.new.done) (sym edges) told.1,
+      subst (λ (l : List ℕ). Marks l c.forward_of.new.done) (sym edges) told.1,
       pushed ∙ ap₂ (λ l x. l ++ (x ∷ [])) c.loop-t.invariant.2 told.0 ∙ sym list,
     )
 

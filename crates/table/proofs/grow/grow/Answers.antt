@@ -17,8 +17,8 @@ renamed :
 renamed n a total r es es₀ ws new cs cs₀ vs new₁ rs rs₀ us new₂ p q u x y z h =
     numbering-same (n + a) r new ws new₁ vs new₂ us x y z ∙ h ∙ ap (grown a) (numbering-same n total es₀ es cs₀ cs rs₀ rs p q u)
 
-pub subdivide-all-total-requires : goal.subdivide-all-total-requires
-subdivide-all-total-requires c =
+pub subdivide_all-total-requires : goal.subdivide_all-total-requires
+subdivide_all-total-requires c =
     let t = c.args.table.now in
     let es = vec_items t.edges in
     let cs = vec_items t.contents in
@@ -41,7 +41,7 @@ subdivide-all-total-requires c =
 pub invariant-of-table : goal.invariant-of-table
 invariant-of-table c =
     let t = c.args.table.now in
-    let s = c.subdivide-all-total in
+    let s = c.subdivide_all-total in
     let a = c.args.amount in
     let x : vec_items (with_items t.edges s.new.edges) ≡ s.new.edges = with_items_is t.edges s.new.edges (search rules) in
     let y : vec_items (with_items t.contents s.new.contents) ≡ s.new.contents = with_items_is t.contents s.new.contents (search rules) in
@@ -62,7 +62,7 @@ invariant-of-table c =
 pub returns : goal.returns
 returns c =
     let t = c.args.table.now in
-    let s = c.subdivide-all-total in
+    let s = c.subdivide_all-total in
     let x : vec_items (with_items t.edges s.new.edges) ≡ s.new.edges = with_items_is t.edges s.new.edges (search rules) in
     let y : vec_items (with_items t.contents s.new.contents) ≡ s.new.contents = with_items_is t.contents s.new.contents (search rules) in
     let z : vec_items (with_items t.rings s.new.rings) ≡ s.new.rings = with_items_is t.rings s.new.rings (search rules) in

@@ -16,5 +16,5 @@ pub returns : goal.returns
 returns g c =
     let l = g.S.BaseShape.triangles c.args.base.now in
     let i = c.loop-i.i in
-    let h : length l ≤ i = let e = c.triangle-count-count.ensures in omega arith in
+    let h : length l ≤ i = let e = c.triangle_count-count.ensures in omega arith in
     c.loop-i.invariant ∙ take_all i l h

@@ -14,7 +14,7 @@ bounds-buffer-indices g c =
     let i = c.loop-i.i in
     let m = length c.args.buffer.now in
     let h : i < length xs = omega arith in
-    let ok : get_or xs i 0 < m = below_yes xs i m 0 h (and_right (leb (length xs) 3360) (all-below xs m) (sym c.if-not-can-list.ensures)) in
+    let ok : get_or xs i 0 < m = below_yes xs i m 0 h (and_right (leb (length xs) 3360) (all-below xs m) (sym c.if-not-can_list.ensures)) in
     omega arith
 
 pub loop-i-preserved : goal.loop-i-preserved
@@ -33,7 +33,7 @@ returns g c =
     let i = c.loop-i.i in
     let f : Float → Vec3A = g.Self.BaseShape.between c.args.self.now c.args.a c.args.b in
     let h : length xs ≤ i = omega arith in
-    let yes : listable xs (length old) ≡ true = sym c.if-not-can-list.ensures in
+    let yes : listable xs (length old) ≡ true = sym c.if-not-can_list.ensures in
     let done : c.loop-i.buffer ≡ along f xs old
     = sym (ap (λ ys. placed (λ j. f (share j (length xs))) i ys c.loop-i.buffer) (drop_all i xs h)) ∙ c.loop-i.invariant in (
       sym (ap (λ b. cond b (Ok tt) (Err (InvalidListing (length xs) (length old)))) yes),

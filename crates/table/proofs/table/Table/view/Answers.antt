@@ -2,8 +2,8 @@ use Rattle.std.proofs.Common.{◌<◌, length, vec_items, vec_len, rules}
 use Rattle.table.proofs.Viewing.{viewable, viewable_same, views_same, shows}
 use Rattle.table.proofs.table.Table.view.Goals as goal
 
-pub list-view-requires : goal.list-view-requires
-list-view-requires c =
+pub list_view-requires : goal.list_view-requires
+list_view-requires c =
     let t = c.args.self.now in
     let i = c.args.i in
     let ts = vec_items t.triangles in
@@ -24,8 +24,8 @@ returns c =
     let es = vec_items t.edges in
     let cs = vec_items t.contents in
     let rs = vec_items t.rings in
-    let w = c.list-view.result in
+    let w = c.list_view.result in
     let h : i < length ts = search rules in
     shows (vec_len t.points) ts fs es cs rs t.n t.total t.sound i h w
     (views_same ts c.deref.result.now fs c.deref-2.result.now es c.deref-3.result.now cs c.deref-4.result.now rs c.deref-5.result.now i w
-    c.deref.ensures.value c.deref-2.ensures.value c.deref-3.ensures.value c.deref-4.ensures.value c.deref-5.ensures.value c.list-view.ensures)
+    c.deref.ensures.value c.deref-2.ensures.value c.deref-3.ensures.value c.deref-4.ensures.value c.deref-5.ensures.value c.list_view.ensures)
