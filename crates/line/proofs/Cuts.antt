@@ -3,17 +3,17 @@ use Rattle.std.proofs.Common.{◌≡◌, ℕ, zero, suc, ◌+◌, ◌-◌, ◌<�
 use Rattle.std.specs.Str.{IsCharBoundary}
 use Rattle.std.specs.List.{prefix_len}
 use Rattle.std.proofs.lemmas.List.Sums.{prefix_len-le-length}
-use Rattle.std.proofs.lemmas.Bool.{cases_Bool, cases_lt, cond_true, cond_false, not-true, not-false, or_parts, or_cases, or_left, true≢false, eqb-true}
+use Rattle.std.proofs.lemmas.Bool.{cases_Bool, cases_lt, cond-true, cond-false, not-true, not-false, or_parts, or_cases, or_left, true≢false, eqb-true}
 use Rattle.std.proofs.lemmas.Str.{IsCharBoundary-start, IsCharBoundary-after_ascii}
 use Rattle.std.proofs.lemmas.Bool.Decides.{nat_tests}
 use Rattle.line.specs.Words.{blank, letter, lead, words_from, words}
 
 -- the front that passes a test, one byte on
 longer : (p : ℕ → Bool) (c : ℕ) (cs : List ℕ) → p c ≡ true → prefix_len p (c ∷ cs) ≡ suc (prefix_len p cs)
-longer p c cs e = cond_true (p c) (1 + prefix_len p cs) 0 e ∙ one-add _
+longer p c cs e = cond-true (p c) (1 + prefix_len p cs) 0 e ∙ one-add _
 
 none : (p : ℕ → Bool) (c : ℕ) (cs : List ℕ) → p c ≡ false → prefix_len p (c ∷ cs) ≡ 0
-none p c cs e = cond_false (p c) (1 + prefix_len p cs) 0 e
+none p c cs e = cond-false (p c) (1 + prefix_len p cs) 0 e
 
 passes : (p : ℕ → Bool) (cs : List ℕ) (k : ℕ) → k < prefix_len p cs → p (get_or cs k 0) ≡ true
 passes p [] k h = absurd (omega arith)
@@ -69,7 +69,7 @@ words_past_blanks : (cs : List ℕ) → words (drop (prefix_len blank cs) cs) �
 words_past_blanks [] = refl
 words_past_blanks (c ∷ cs) =
     ⊎_elim
-    (λ e. ap (λ n. words (drop n (c ∷ cs))) (longer blank c cs e) ∙ words_past_blanks cs ∙ sym (cond_true (blank c) (words cs) _ e))
+    (λ e. ap (λ n. words (drop n (c ∷ cs))) (longer blank c cs e) ∙ words_past_blanks cs ∙ sym (cond-true (blank c) (words cs) _ e))
     (λ e. ap (λ n. words (drop n (c ∷ cs))) (none blank c cs e))
     (cases_Bool (blank c))
 
@@ -77,20 +77,20 @@ lead_is : (cs : List ℕ) → take (prefix_len letter cs) cs ≡ lead cs
 lead_is [] = refl
 lead_is (c ∷ cs) =
     ⊎_elim
-    (λ e. ap (λ n. take n (c ∷ cs)) (longer letter c cs e) ∙ ap (λ l. c ∷ l) (lead_is cs) ∙ sym (cond_true (letter c) (c ∷ lead cs) [] e))
-    (λ e. ap (λ n. take n (c ∷ cs)) (none letter c cs e) ∙ sym (cond_false (letter c) (c ∷ lead cs) [] e))
+    (λ e. ap (λ n. take n (c ∷ cs)) (longer letter c cs e) ∙ ap (λ l. c ∷ l) (lead_is cs) ∙ sym (cond-true (letter c) (c ∷ lead cs) [] e))
+    (λ e. ap (λ n. take n (c ∷ cs)) (none letter c cs e) ∙ sym (cond-false (letter c) (c ∷ lead cs) [] e))
     (cases_Bool (letter c))
 
 -- what stands at a letter
 at-letter : (within : Bool) (c : ℕ) (cs : List ℕ) → letter c ≡ true → words_from within (c ∷ cs) ≡ cond within (words_from true cs) ((c ∷ lead cs) ∷ words_from true cs)
-at-letter within c cs e = cond_false (blank c) _ _ (letter_parts c e).0 ∙ cond_false (eqb c 35) _ _ (letter_parts c e).1
+at-letter within c cs e = cond-false (blank c) _ _ (letter_parts c e).0 ∙ cond-false (eqb c 35) _ _ (letter_parts c e).1
 
 -- at any other byte it does not matter whether the text begins within a word
 at_other : (c : ℕ) (cs : List ℕ) → letter c ≡ false → words_from true (c ∷ cs) ≡ words_from false (c ∷ cs)
 at_other c cs e =
     ⊎_elim
-    (λ b. cond_true (blank c) _ _ b ∙ sym (cond_true (blank c) _ _ b))
-    (λ h. ap (λ x. cond (blank c) (words_from false cs) x) (cond_true (eqb c 35) [] _ h ∙ sym (cond_true (eqb c 35) [] _ h)))
+    (λ b. cond-true (blank c) _ _ b ∙ sym (cond-true (blank c) _ _ b))
+    (λ h. ap (λ x. cond (blank c) (words_from false cs) x) (cond-true (eqb c 35) [] _ h ∙ sym (cond-true (eqb c 35) [] _ h)))
     (or_cases (blank c) (eqb c 35) (not-false _ e))
 
 words_past_letters : (cs : List ℕ) → words_from true cs ≡ words (drop (prefix_len letter cs) cs)
@@ -107,7 +107,7 @@ one_word (c ∷ cs) word rest p q some =
     ⊎_elim
     (λ e.
     at-letter false c cs e
-    ∙ (λ i. (sym (cond_true (letter c) (c ∷ lead cs) [] e) ∙ sym (lead_is (c ∷ cs)) ∙ sym p) i ∷ (sym (at-letter true c cs e) ∙ words_past_letters (c ∷ cs) ∙ sym (ap words q)) i))
+    ∙ (λ i. (sym (cond-true (letter c) (c ∷ lead cs) [] e) ∙ sym (lead_is (c ∷ cs)) ∙ sym p) i ∷ (sym (at-letter true c cs e) ∙ words_past_letters (c ∷ cs) ∙ sym (ap words q)) i))
     (λ e. absurd (omega (arith, ap length p, ap (λ n. length (take n (c ∷ cs))) (none letter c cs e))))
     (cases_Bool (letter c))
 
@@ -119,7 +119,7 @@ no_letter [] p q = refl
 no_letter (c ∷ cs) p q =
     let dark : blank c ≡ false = fails blank c cs p in
     let hash : eqb c 35 ≡ true = ⊎_elim (λ b. absurd (true≢false (sym b ∙ dark))) (λ h. h) (or_cases (blank c) (eqb c 35) (not-false _ (fails letter c cs q))) in
-    cond_false (blank c) _ _ dark ∙ cond_true (eqb c 35) _ _ hash
+    cond-false (blank c) _ _ dark ∙ cond-true (eqb c 35) _ _ hash
 
 pub no_word : (line text word : List ℕ) → text ≡ drop (prefix_len blank line) line → word ≡ take (prefix_len letter text) text → length word ≡ 0 → words line ≡ []
 no_word line text word p q none =

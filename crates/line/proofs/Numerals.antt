@@ -4,7 +4,7 @@ use Rattle.std.specs.Result.{result_ok}
 use Rattle.std.specs.Str.Parse.{IsNumeral, ParsesUnsigned, without_leading_plus, digits_value}
 use Rattle.std.specs.Str.{all_ascii_digits}
 use Rattle.std.proofs.lemmas.Str.Parse.{IsNumeralModel, numerals_by_value, tells_all_ascii_digits}
-use Rattle.std.proofs.lemmas.Bool.{cases_Bool, cond_true, cond_false, and_parts, and_from, ltb-true, lt-ltb}
+use Rattle.std.proofs.lemmas.Bool.{cases_Bool, cond-true, cond-false, and_parts, and_from, ltb-true, lt-ltb}
 use Rattle.line.specs.Numbers.{whole_word, whole_number, plain, all_plain}
 
 own : IsNumeralModel (λ ds. all_ascii_digits ds ≡ true) (digits_value 10)
@@ -20,11 +20,11 @@ whole_to k ds e =
     ((ltb-true 0 (length ds) q.0, own.to ds q.1), ltb-true (digits_value 10 ds) (2 ^ k) p.1)
 
 pub read_whole : {E : Type 0} (k : ℕ) (w : List ℕ) (r : Result ℕ E) → ParsesUnsigned k 10 w r → result_ok r ≡ whole_number k w
-read_whole k w (Ok x) h = ap Some h.1 ∙ sym (cond_true (whole_word k (without_leading_plus w)) _ _ (whole_from k (without_leading_plus w) h.0))
+read_whole k w (Ok x) h = ap Some h.1 ∙ sym (cond-true (whole_word k (without_leading_plus w)) _ _ (whole_from k (without_leading_plus w) h.0))
 read_whole k w (Err e) h =
     ⊎_elim
     (λ t. absurd (h (whole_to k (without_leading_plus w) t)))
-    (λ f. sym (cond_false (whole_word k (without_leading_plus w)) _ _ f))
+    (λ f. sym (cond-false (whole_word k (without_leading_plus w)) _ _ f))
     (cases_Bool (whole_word k (without_leading_plus w)))
 
 -- one byte on

@@ -67,10 +67,10 @@ returns-in-Six g c =
     draws_on (own o v) (further o v v.depth v) refl c.write_ring.ensures
     (l.invariant.0 c.write_one.new.sink (same_drawn (ap (offset_by o) e) c.write_one.ensures))
 
-pub returns-in-default-inner : goal.returns-in-default-inner
-returns-in-default-inner g c =
+pub returns-in_default-inner : goal.returns-in_default-inner
+returns-in_default-inner g c =
     let v = c.args.view.now in
     let o = c.args.offset in
     let l = c.loop-inner in
-    let e = nothing-inside v.rings.now l.depth l.inner c.in-default.not-More c.in-default-inner.not-Six in
+    let e = nothing-inside v.rings.now l.depth l.inner c.in_default.not-More c.in_default-inner.not-Six in
     draws_on (own o v) (further o v v.depth v) refl c.write_ring.ensures (l.invariant.0 l.sink (same_drawn (ap (offset_by o) e) (none_drawn l.sink)))

@@ -10,6 +10,6 @@ returns g c =
     let n = c.triangle_count-count.result in
     let z : n - 0 ≡ length ts = omega arith in
     list_settles (length points) (g.S.BaseShape.edgeCount base) ts c.point_count-points.result c.edges-edges.result n
-    (take (n - 0) c.copy_triangles.new.buffer) c.in-ok-check_counts.field-0 c.check_list.result
+    (take (n - 0) c.copy_triangles.new.buffer) c.in_ok-check_counts.field-0 c.check_list.result
     c.point_count-points.ensures c.edges-edges.ensures c.triangle_count-count.ensures
-    (ap (λ k. take k c.copy_triangles.new.buffer) z ∙ c.copy_triangles.ensures) c.in-ok-check_counts.ensures c.check_list.ensures
+    (ap (λ k. take k c.copy_triangles.new.buffer) z ∙ c.copy_triangles.ensures) c.in_ok-check_counts.ensures c.check_list.ensures

@@ -2,7 +2,7 @@ use Rattle.std.proofs.Common.{◌≡◌, ◌+◌, ◌<◌, ◌≤◌, length, ta
 use Rattle.std.proofs.lemmas.List.{take_all}
 use Rattle.questions.proofs.Copying.{copied_more}
 use Rattle.questions.proofs.check.copy_triangles.Goals as goal
-use Rattle.questions.proofs.check.copy_triangles.Goals.{in-Some, in-default}
+use Rattle.questions.proofs.check.copy_triangles.Goals.{in-Some, in_default}
 
 pub loop-i-preserved : goal.loop-i-preserved
 loop-i-preserved g c =
@@ -13,7 +13,7 @@ loop-i-preserved g c =
     elim c.match-triangle.branch [
       | in-Some w ↦
           ap (take (i + 1)) w.buffer-is ∙ copied_more c.loop-i.buffer ts i w.in-Some.t h k c.loop-i.invariant w.in-Some.ensures.1
-      | in-default w ↦ absurd (let z : ⊥ = omega (arith, w.in-default.ensures) in z)
+      | in_default w ↦ absurd (let z : ⊥ = omega (arith, w.in_default.ensures) in z)
     ]
 
 pub returns : goal.returns

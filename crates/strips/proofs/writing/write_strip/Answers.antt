@@ -18,19 +18,19 @@ overflow-add-number g c =
     let xs = c.args.numbers.now in
     let i = c.loop-number.number-index in
     let h : i < length xs = omega arith in
-    let k = none_too_large c.args.offset xs i h (sym c.in-default.ensures) in
+    let k = none_too_large c.args.offset xs i h (sym c.in_default.ensures) in
     omega arith
 
-pub returns-in-err-push : goal.returns-in-err-push
-returns-in-err-push g c =
+pub returns-in_err-push : goal.returns-in_err-push
+returns-in_err-push g c =
     let xs = c.args.numbers.now in
     let i = c.loop-number.number-index in
     let o = c.args.offset in
     let h : i < length xs = omega arith in
-    let k = none_too_large o xs i h (sym c.in-default.ensures) in
+    let k = none_too_large o xs i h (sym c.in_default.ensures) in
     let p : 0 < length xs - i = omega arith in
     let ok = c.push.ensures.answers ∙ push_taken (g.K.Sink.meaning c.loop-number.sink) (get_or xs i 0 + o) (length xs - i) k p c.loop-number.invariant.1 in
-    absurd (not_both c.push.result tt c.in-err-push.field-0.0 ok c.in-err-push.was)
+    absurd (not_both c.push.result tt c.in_err-push.field-0.0 ok c.in_err-push.was)
 
 pub loop-number-preserved : goal.loop-number-preserved
 loop-number-preserved g c =
@@ -41,11 +41,11 @@ loop-number-preserved g c =
     let h : i < length xs = omega arith in
     let free = g.K.Sink.free in
     let n : length xs - i ≡ suc (length xs - (i + 1)) = omega arith in
-    let u = c.push.ensures.accepted c.in-ok-push.was in (
+    let u = c.push.ensures.accepted c.in_ok-push.was in (
       λ t w. c.loop-number.invariant.0 t (subst (λ (l : List ℕ). Writes (offset_by o (l ∷ [])) s t) (sym (drop_more xs i 0 h)) (a_number u w)),
       u.takes_still (length xs - (i + 1)) 1 (subst (λ (m : ℕ). T (s.takes m 1)) n c.loop-number.invariant.1),
       c.push.ensures.holds ∙ c.loop-number.invariant.2,
-      behind (free c.args.sink.now) (free c.loop-number.sink) (free c.push.new.self) c.loop-number.invariant.3 (c.push.ensures.left c.in-ok-push.was),
+      behind (free c.args.sink.now) (free c.loop-number.sink) (free c.push.new.self) c.loop-number.invariant.3 (c.push.ensures.left c.in_ok-push.was),
     )
 
 pub returns : goal.returns
@@ -62,7 +62,7 @@ returns g c =
     record {
       answers =
           ok
-          ∙ sym (ap (λ r. too_large_or r (taken_or_full first (length xs) 1)) (sym c.in-default.ensures)
+          ∙ sym (ap (λ r. too_large_or r (taken_or_full first (length xs) 1)) (sym c.in_default.ensures)
           ∙ ap (λ b. cond b (Ok tt) (Err (SinkFull (length xs) 1))) (sym c.if-not-can_take.ensures));
       accepted = λ q. c.loop-number.invariant.0 t (subst (λ (l : List ℕ). Writes (offset_by o (l ∷ [])) s t) (sym (drop_all i xs h)) (a_break (c.end_strip.ensures.accepted q) nothing));
       left = λ q. behind (free c.args.sink.now) (free c.loop-number.sink) (free c.end_strip.new.self) c.loop-number.invariant.3 (c.end_strip.ensures.left q);
