@@ -185,10 +185,10 @@ lines_counted P E ts A N R =
     numbers : lengths (major_strips ts N) ≡ length N.edges * (N.n + 2)
     numbers =
         major_numbers_lem N E (edge-long P E ts A N I) [] (uses ts) (edges-below P E ts A N I)
-        ∙ firsts_all E (N.n + 2) (uses ts) (edges-below P E ts A N I) once ∙ ap (λ k. k * (N.n + 2)) (sym I.IsEdge-count)
+        ∙ firsts_all E (N.n + 2) (uses ts) (edges-below P E ts A N I) once ∙ ap (λ k. k * (N.n + 2)) (sym I.edge_count)
 
     breaks : length (major_strips ts N) ≡ length N.edges
     breaks =
         let a : length (major_strips ts N) ≡ E * 1
         = major_breaks_lem N E (edge-long P E ts A N I) [] (uses ts) ∙ firsts_all E 1 (uses ts) (edges-below P E ts A N I) once in
-        omega (arith, I.IsEdge-count)
+        omega (arith, I.edge_count)

@@ -73,7 +73,7 @@ vertices-once P E ts A N R =
     size : N.total ≡ P + N.n * E + length ts * (N.n * (N.n - 1) / 2)
     size =
         let a = I.all one in
-        let b : N.n * length N.edges ≡ N.n * E = ap (λ x. N.n * x) I.IsEdge-count in
+        let b : N.n * length N.edges ≡ N.n * E = ap (λ x. N.n * x) I.edge_count in
         let c : length N.contents * (N.n * (N.n - 1) / 2) ≡ length ts * (N.n * (N.n - 1) / 2) = ap (λ x. x * (N.n * (N.n - 1) / 2)) I.contents-count in
         omega (
           arith,

@@ -74,7 +74,7 @@ patch seen t g = record { tri = by_side t; forth = forward seen t; inner = g }
 
 module _ (P E : ℕ) (ts : List Triangle) (A : Accepted P E ts) (N : Numbering) (I : Inv P E (length ts) N) where
   pub edge-long : (e : ℕ) → e < E → length (edge_of N e) ≡ N.n
-  edge-long e l = long-at N.n N.edges I.long e (let d = I.IsEdge-count in let z : e < length N.edges = omega arith in z)
+  edge-long e l = long-at N.n N.edges I.long e (let d = I.edge_count in let z : e < length N.edges = omega arith in z)
 
   pub all_once : (x : ℕ) → occ x (range 0 P) + occ x (flat N.edges) + occ x (inners N.contents) ≤ 1
   all_once x =
@@ -91,7 +91,7 @@ module _ (P E : ℕ) (ts : List Triangle) (A : Accepted P E ts) (N : Numbering) 
   some_edges x es b once =
       let a = at_most_all E (λ e. occ x (edge_of N e)) es b once in
       let c = flat-sum x N.edges in
-      let d : sum_to (length N.edges) (λ e. occ x (edge_of N e)) ≡ sum_to E (λ e. occ x (edge_of N e)) = ap (λ m. sum_to m (λ e. occ x (edge_of N e))) I.IsEdge-count in
+      let d : sum_to (length N.edges) (λ e. occ x (edge_of N e)) ≡ sum_to E (λ e. occ x (edge_of N e)) = ap (λ m. sum_to m (λ e. occ x (edge_of N e))) I.edge_count in
       omega arith
 
   pub one-edge : (x e : ℕ) → e < E → occ x (edge_of N e) ≤ occ x (flat N.edges)

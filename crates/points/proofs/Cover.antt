@@ -166,7 +166,7 @@ module _ (P D : ℕ) (ts : List Triangle) (A : Accepted P D ts) (N : Numbering) 
       go (no c) d = inl (A.used.points x (omega arith))
       go (yes c) (yes d) =
           let q = on_edge N.edges x d in
-          let lt : q.e < D = (let y = q.e< in omega (arith, I.IsEdge-count)) in
+          let lt : q.e < D = (let y = q.e< in omega (arith, I.edge_count)) in
           let v = find q.e (uses ts) (A.used.edges q.e lt) in
           inr (inl (v.v, v.there, subst (λ (k : ℕ). 1 ≤ occ x (edge_of N k)) v.its q.on))
       go (yes c) (no d) = inr (inr (omega (arith, all, range_above x 0 P (omega arith))))
