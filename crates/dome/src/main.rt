@@ -3,6 +3,7 @@
 
 use order::reader::{Problem, Reader};
 use std::io::{BufRead, BufReader, BufWriter, ErrorKind, Write};
+use std::process::ExitCode;
 use std::{fmt, io};
 use wording::InWords;
 
@@ -61,10 +62,12 @@ fn answer_all(rt: &HostRuntime) -> Result<(), Stop> {
     Ok(())
 }
 
-fn main(rt: HostRuntime) -> Result<(), Stop> {
-    let result = answer_all(&rt);
-    if let Err(stop) = &result {
-        let _ = eprintln!(rt; "{stop}");
+fn main(rt: HostRuntime) -> ExitCode {
+    match answer_all(&rt) {
+        Ok(()) => ExitCode::SUCCESS,
+        Err(stop) => {
+            let _ = eprintln!(rt; "{stop}");
+            ExitCode::FAILURE
+        }
     }
-    result
 }

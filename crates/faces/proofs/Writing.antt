@@ -60,7 +60,7 @@ glue {old = old} {mid = mid} {new = new} {at = at} {p = p} {q = q} {fs = fs} {gs
     let k : length mid ≡ length old = as_long v in
     let e : p ≡ at + length (face_numbers fs) = omega (arith, three_each fs, v.next_is) in
     record {
-      next_is = omega (arith, v.next_is, w.next-is);
+      next_is = omega (arith, v.next_is, w.next_is);
       fits = omega (arith, w.fits);
       holds =
           w.holds ∙ ap₂ (λ o n. written o n (face_numbers gs)) v.holds e ∙ written-more old at (face_numbers fs) (face_numbers gs) (room_for v)

@@ -13,8 +13,8 @@ use Rattle.strips.proofs.writing.write_strip.Goals as goal
 pub loop-number-init : goal.loop-number-init
 loop-number-init g c = let f = all-free (g.K.Sink.free c.args.sink.now) in search rules
 
-pub overflow-add-number : goal.overflow-add-number
-overflow-add-number g c =
+pub overflow_add-number : goal.overflow_add-number
+overflow_add-number g c =
     let xs = c.args.numbers.now in
     let i = c.loop-number.number-index in
     let h : i < length xs = omega arith in

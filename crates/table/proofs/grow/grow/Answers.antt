@@ -38,8 +38,8 @@ subdivide_all-total-requires c =
           (subst (λ (k : ℕ). WithinLimits (length es) k t.total) (ap length q) l);
     }
 
-pub invariant-of-table : goal.invariant-of-table
-invariant-of-table c =
+pub invariant_of-table : goal.invariant_of-table
+invariant_of-table c =
     let t = c.args.table.now in
     let s = c.subdivide_all-total in
     let a = c.args.amount in

@@ -5,8 +5,8 @@ use Rattle.strips.proofs.Free.{one-used}
 use Rattle.strips.proofs.Refusing.{not_both}
 use Rattle.strips.proofs.start_taking.StartSinkSink.end_strip.Goals as goal
 
-pub invariant-of-self : goal.invariant-of-self
-invariant-of-self c =
+pub invariant_of-self : goal.invariant_of-self
+invariant_of-self c =
     let es = c.args.self.now.starts.now in
     let d = c.args.self.now.breaks in
     let h : d < length es = search rules in

@@ -13,8 +13,8 @@ small t =
     few (vec_len t.points) (vec_items t.triangles) (vec_items t.forward) (vec_items t.edges) (vec_items t.contents) (vec_items t.rings) t.n t.total
     t.sound
 
-pub overflow-sub-self : goal.overflow-sub-self
-overflow-sub-self c = small c.args.self.now
+pub overflow_sub-self : goal.overflow_sub-self
+overflow_sub-self c = small c.args.self.now
 
 pub grow-requires : goal.grow-requires
 grow-requires c = let h = small c.args.self.now in omega arith
