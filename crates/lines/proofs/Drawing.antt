@@ -15,7 +15,6 @@ use Rattle.mesh.proofs.Sinks.{sinks_filled}
 use Rattle.strips.specs.Taking.{taken_or_full}
 use Rattle.strips.specs.Writing.{first_too_large, too_large_or, strip_answer, WritesStrip}
 use Rattle.strips.proofs.Fitting.{is_true}
-use Rattle.strips.proofs.Free.{all-free, behind}
 use Rattle.lines.specs.Drawing.{Draws}
 
 pub writes_on : (ks ms : List (List ℕ)) (s t u : Sink) → Writes ks s t → Writes ms t u → Writes (ks ++ ms) s u
@@ -53,29 +52,28 @@ strip_accepted s offset xs h =
     ap (λ r. too_large_or r (taken_or_full s (length xs) 1)) (numbers_fit offset xs h.1.0)
     ∙ ap (λ b. cond b (Ok tt) (Err (SinkFull (length xs) 1))) (is_true (s.takes (length xs) 1) t)
 
-module _ {S : Type 0} {meaning : S → Sink} {held : S → List GName} {free : S → List (List ℕ)} where
+module _ {S : Type 0} {meaning : S → Sink} {held : S → List GName} where
   -- a strip that the sink takes is not refused
   pub strip_drawn :
       (offset : ℕ) (xs : List ℕ) (old new : S) (r : Result (Unit {0}) Refusal) → TakenBy (meaning old) (offset_by offset (xs ∷ []))
-      → WritesStrip meaning held free xs offset old r new → Draws meaning held free (offset_by offset (xs ∷ [])) old new
+      → WritesStrip meaning held xs offset old r new → Draws meaning held (offset_by offset (xs ∷ [])) old new
   strip_drawn offset xs old new r h w =
       let ok = w.answers ∙ strip_accepted (meaning old) offset xs h in
-      record { writes = w.accepted ok; holds = w.holds; left = w.left ok }
+      record { writes = w.accepted ok; holds = w.holds }
 
-  pub none_drawn : (s : S) → Draws meaning held free [] s s
-  none_drawn s = record { writes = nothing; holds = refl; left = all-free (free s) }
+  pub none_drawn : (s : S) → Draws meaning held [] s s
+  none_drawn s = record { writes = nothing; holds = refl }
 
   -- the same strips by another name
-  pub same_drawn : {ls ks : List (List ℕ)} {old new : S} → ls ≡ ks → Draws meaning held free ks old new → Draws meaning held free ls old new
-  same_drawn {old = old} {new = new} e v = subst (λ (l : List (List ℕ)). Draws meaning held free l old new) (sym e) v
+  pub same_drawn : {ls ks : List (List ℕ)} {old new : S} → ls ≡ ks → Draws meaning held ks old new → Draws meaning held ls old new
+  same_drawn {old = old} {new = new} e v = subst (λ (l : List (List ℕ)). Draws meaning held l old new) (sym e) v
 
   -- strips, and then others
   pub draws_on :
-      {ls : List (List ℕ)} {old mid new : S} (ks ms : List (List ℕ)) → ls ≡ ks ++ ms → Draws meaning held free ks old mid → Draws meaning held free ms mid new
-      → Draws meaning held free ls old new
+      {ls : List (List ℕ)} {old mid new : S} (ks ms : List (List ℕ)) → ls ≡ ks ++ ms → Draws meaning held ks old mid → Draws meaning held ms mid new
+      → Draws meaning held ls old new
   draws_on {old = old} {mid = mid} {new = new} ks ms e v w =
       same_drawn e (record {
         writes = writes_on ks ms (meaning old) (meaning mid) (meaning new) v.writes w.writes;
         holds = w.holds ∙ v.holds;
-        left = behind (free old) (free mid) (free new) v.left w.left;
       })

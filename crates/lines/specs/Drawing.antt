@@ -2,10 +2,8 @@
 use Rattle.std.specs.Prelude.{◌≡◌, ℕ, List}
 use Rattle.std.specs.Borrow.{GName}
 use Rattle.mesh.specs.Sinks.{Sink, Writes}
-use Rattle.strips.specs.Free.{Behind}
 
--- the strips were written, and the free places behind them are as they were
-pub record Draws {S : Type 0} (meaning : S → Sink) (held : S → List GName) (free : S → List (List ℕ)) (ls : List (List ℕ)) (old new : S) : Type 0 where
+-- the strips were written, and the same references are held
+pub record Draws {S : Type 0} (meaning : S → Sink) (held : S → List GName) (ls : List (List ℕ)) (old new : S) : Type 0 where
   pub writes : Writes ls (meaning old) (meaning new)
   pub holds : held new ≡ held old
-  pub left : Behind (free old) (free new)

@@ -12,7 +12,7 @@ use strips::sink::Sink;
 pub fn write_edge<K: Sink>(sink: &mut K, first: u32, vertices: &[u32], last: u32, offset: u32)
     requires few { length vertices.now ≤ 12 }
     requires taken { TakenBy (K.Sink.meaning sink.old) (offset_by offset ((first ∷ (vertices.now ++ (last ∷ []))) ∷ [])) }
-    ensures { Draws K.Sink.meaning K.Sink.held K.Sink.free (offset_by offset ((first ∷ (vertices.now ++ (last ∷ []))) ∷ [])) sink.old sink.new }
+    ensures { Draws K.Sink.meaning K.Sink.held (offset_by offset ((first ∷ (vertices.now ++ (last ∷ []))) ∷ [])) sink.old sink.new }
 {
     let mut strip = Strip::new();
     strip.push(first);

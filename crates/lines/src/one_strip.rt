@@ -10,7 +10,7 @@ use strips::writing::write_strip;
 // The numbers, each plus the offset, and a break. No refusal comes, since the sink takes them.
 pub(crate) fn write_one<K: Sink>(sink: &mut K, numbers: &[u32], offset: u32)
     requires { TakenBy (K.Sink.meaning sink.old) (offset_by offset (numbers.now ∷ [])) }
-    ensures { Draws K.Sink.meaning K.Sink.held K.Sink.free (offset_by offset (numbers.now ∷ [])) sink.old sink.new }
+    ensures { Draws K.Sink.meaning K.Sink.held (offset_by offset (numbers.now ∷ [])) sink.old sink.new }
 {
     let _ = write_strip(sink, numbers, offset);
 }

@@ -15,7 +15,7 @@ use strips::sink::Sink;
 fn write_ring<K: Sink>(sink: &mut K, view: &RingView, offset: u32)
     requires whole { WholeView view.now }
     requires taken { TakenBy (K.Sink.meaning sink.old) (offset_by offset (own_strip view.now ∷ [])) }
-    ensures { Draws K.Sink.meaning K.Sink.held K.Sink.free (offset_by offset (own_strip view.now ∷ [])) sink.old sink.new }
+    ensures { Draws K.Sink.meaning K.Sink.held (offset_by offset (own_strip view.now ∷ [])) sink.old sink.new }
 {
     let strip = ring_strip(view);
     write_one(sink, strip.numbers(), offset);
@@ -26,7 +26,7 @@ fn write_ring<K: Sink>(sink: &mut K, view: &RingView, offset: u32)
 pub fn write_triangle<K: Sink>(sink: &mut K, view: &RingView, offset: u32)
     requires whole { WholeView view.now }
     requires taken { TakenBy (K.Sink.meaning sink.old) (offset_by offset (view_strips view.now)) }
-    ensures { Draws K.Sink.meaning K.Sink.held K.Sink.free (offset_by offset (view_strips view.now)) sink.old sink.new }
+    ensures { Draws K.Sink.meaning K.Sink.held (offset_by offset (view_strips view.now)) sink.old sink.new }
 {
     write_ring(sink, view, offset);
     let mut inner = view.inner;

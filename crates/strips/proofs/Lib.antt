@@ -1,4 +1,3 @@
-pub mod Free
 pub mod Marks
 pub mod Refusing
 pub mod Starts

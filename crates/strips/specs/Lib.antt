@@ -1,4 +1,3 @@
-pub mod Free
 pub mod Taking
 pub mod Marks
 pub mod Starts

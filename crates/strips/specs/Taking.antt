@@ -1,11 +1,9 @@
--- What a push and a break answer, and what they make of a sink, where meaning says what the sink is, held which references it holds
--- and free which places of its tables are not used.
+-- What a push and a break answer, and what they make of a sink, where meaning says what the sink is and held which references it holds.
 use Rattle.std.specs.Prelude.{◌≡◌, ℕ, Bool, cond, List, [], Ok, Err, Result, ◌==◌}
 use Rattle.std.specs.Borrow.{GName}
 use Rattle.refusal.specs.declared.Refusal.{Refusal}
 use Rattle.refusal.specs.declared.Refusal.TheVariants.{NumberTooLarge, SinkFull}
 use Rattle.mesh.specs.Sinks.{Sink, Pushed, Broken}
-use Rattle.strips.specs.Free.{Behind}
 
 -- no strip is closed, and nothing is in the open one
 pub record Empty (s : Sink) : Type 0 where
@@ -20,16 +18,14 @@ taken_or_full s p b = cond (s.takes p b) (Ok tt) (Err (SinkFull p b))
 abbrev pub push_answer : Sink → ℕ → Result (Unit {0}) Refusal
 push_answer s x = cond (x == 4294967295) (Err (NumberTooLarge x)) (taken_or_full s 1 0)
 
-pub record Pushes {S : Type 0} (meaning : S → Sink) (held : S → List GName) (free : S → List (List ℕ)) (x : ℕ) (old : S) (r : Result (Unit {0}) Refusal) (new : S) : Type 0 where
+pub record Pushes {S : Type 0} (meaning : S → Sink) (held : S → List GName) (x : ℕ) (old : S) (r : Result (Unit {0}) Refusal) (new : S) : Type 0 where
   pub answers : r ≡ push_answer (meaning old) x
   pub accepted : r ≡ Ok tt → Pushed x (meaning old) (meaning new)
-  pub left : r ≡ Ok tt → Behind (free old) (free new)
   pub refused : (e : Refusal) → r ≡ Err e → new ≡ old
   pub holds : held new ≡ held old
 
-pub record Breaks {S : Type 0} (meaning : S → Sink) (held : S → List GName) (free : S → List (List ℕ)) (old : S) (r : Result (Unit {0}) Refusal) (new : S) : Type 0 where
+pub record Breaks {S : Type 0} (meaning : S → Sink) (held : S → List GName) (old : S) (r : Result (Unit {0}) Refusal) (new : S) : Type 0 where
   pub answers : r ≡ taken_or_full (meaning old) 0 1
   pub accepted : r ≡ Ok tt → Broken (meaning old) (meaning new)
-  pub left : r ≡ Ok tt → Behind (free old) (free new)
   pub refused : (e : Refusal) → r ≡ Err e → new ≡ old
   pub holds : held new ≡ held old

@@ -5,7 +5,6 @@ use Rattle.refusal.specs.declared.Refusal.{Refusal}
 use Rattle.refusal.specs.declared.Refusal.TheVariants.{NumberTooLarge}
 use Rattle.mesh.specs.Sinks.{Sink, Writes}
 use Rattle.mesh.specs.Strips.{offset_by}
-use Rattle.strips.specs.Free.{Behind}
 use Rattle.strips.specs.Taking.{taken_or_full}
 
 -- the first number that, with the offset, is not below 4,294,967,295
@@ -21,9 +20,8 @@ too_large_or None r = r
 abbrev pub strip_answer : Sink → List ℕ → ℕ → Result (Unit {0}) Refusal
 strip_answer s xs offset = too_large_or (first_too_large offset xs) (taken_or_full s (length xs) 1)
 
-pub record WritesStrip {S : Type 0} (meaning : S → Sink) (held : S → List GName) (free : S → List (List ℕ)) (xs : List ℕ) (offset : ℕ) (old : S) (r : Result (Unit {0}) Refusal) (new : S) : Type 0 where
+pub record WritesStrip {S : Type 0} (meaning : S → Sink) (held : S → List GName) (xs : List ℕ) (offset : ℕ) (old : S) (r : Result (Unit {0}) Refusal) (new : S) : Type 0 where
   pub answers : r ≡ strip_answer (meaning old) xs offset
   pub accepted : r ≡ Ok tt → Writes (offset_by offset (xs ∷ [])) (meaning old) (meaning new)
-  pub left : r ≡ Ok tt → Behind (free old) (free new)
   pub refused : (e : Refusal) → r ≡ Err e → new ≡ old
   pub holds : held new ≡ held old

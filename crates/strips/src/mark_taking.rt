@@ -1,5 +1,5 @@
 // What a sink with marks takes.
-ghost use Rattle.std.specs.Prelude.{◌≡◌, List, [], ◌∷◌, drop};
+ghost use Rattle.std.specs.Prelude.{◌≡◌, List, [], ◌∷◌};
 ghost use Rattle.strips.specs.Marks.{mark_sink};
 
 use crate::mark_sink::MarkSink;
@@ -10,8 +10,6 @@ impl<'a> Sink for MarkSink<'a> {
     ghost meaning = { λ s. mark_sink s.used s.places.now };
 
     ghost held = { λ s. s.places.ghost_name ∷ [] };
-
-    ghost free = { λ s. drop s.used s.places.now ∷ [] };
 
     fn can_take(&self, numbers: usize, breaks: usize) -> bool {
         let free = self.places.len().saturating_sub(self.used);

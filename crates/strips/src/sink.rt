@@ -1,5 +1,5 @@
 // What a sink of line strips is.
-ghost use Rattle.std.specs.Prelude.{◌≡◌, ℕ, List};
+ghost use Rattle.std.specs.Prelude.{◌≡◌, List};
 ghost use Rattle.std.specs.Borrow.{GName};
 ghost use Rattle.mesh.specs.Sinks.{Sink as Strips};
 ghost use Rattle.strips.specs.Taking.{Pushes, Breaks};
@@ -18,18 +18,15 @@ pub trait Sink {
     // the names of the references that it holds, by which a lender finds its own again
     ghost held: { Self → List GName };
 
-    // the places of each of its tables that are not used yet
-    ghost free: { Self → List (List ℕ) };
-
     // Whether that many numbers and breaks can be taken.
     fn can_take(&self, numbers: usize, breaks: usize) -> bool
         ensures { result ≡ (meaning self.now).takes numbers breaks };
 
     // Lengthens the open strip.
     fn push(&mut self, number: u32) -> Result<(), Refusal>
-        ensures { Pushes meaning held free number self.old result self.new };
+        ensures { Pushes meaning held number self.old result self.new };
 
     // A break: closes the open strip and opens an empty one.
     fn end_strip(&mut self) -> Result<(), Refusal>
-        ensures { Breaks meaning held free self.old result self.new };
+        ensures { Breaks meaning held self.old result self.new };
 }

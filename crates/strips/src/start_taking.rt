@@ -1,5 +1,5 @@
 // What a sink with starts takes.
-ghost use Rattle.std.specs.Prelude.{◌≡◌, List, [], ◌∷◌, drop};
+ghost use Rattle.std.specs.Prelude.{◌≡◌, List, [], ◌∷◌};
 ghost use Rattle.strips.specs.Starts.{start_sink};
 
 use crate::sink::{MARK, Sink};
@@ -10,8 +10,6 @@ impl<'a, 'b> Sink for StartSink<'a, 'b> {
     ghost meaning = { λ s. start_sink s.used s.numbers.now s.breaks s.starts.now };
 
     ghost held = { λ s. s.numbers.ghost_name ∷ s.starts.ghost_name ∷ [] };
-
-    ghost free = { λ s. drop s.used s.numbers.now ∷ drop s.breaks s.starts.now ∷ [] };
 
     fn can_take(&self, numbers: usize, breaks: usize) -> bool {
         numbers <= self.numbers.len().saturating_sub(self.used)

@@ -20,7 +20,7 @@ fn first_too_large(numbers: &[u32], offset: u32) -> Option<u64>
 
 // Writes the numbers, each plus the offset, and a break. All is asked before the first write.
 pub fn write_strip<K: Sink>(sink: &mut K, numbers: &[u32], offset: u32) -> Result<(), Refusal>
-    ensures { WritesStrip K.Sink.meaning K.Sink.held K.Sink.free numbers.now offset sink.old result sink.new }
+    ensures { WritesStrip K.Sink.meaning K.Sink.held numbers.now offset sink.old result sink.new }
 {
     if let Some(number) = first_too_large(numbers, offset) {
         return Err(Refusal::NumberTooLarge { number });

@@ -13,7 +13,7 @@ invariant-loop-inner g l =
     let rs = l.view.rings.now in
     let all = offset_by l.offset (strips_inside rs l.initial.depth l.initial.inner) in
     let left = offset_by l.offset (strips_inside rs l.depth l.inner) in
-    ((s : g.row.K.Denot) → Draws k.meaning k.held k.free left l.sink s → Draws k.meaning k.held k.free all l.initial.sink s) ×
+    ((s : g.row.K.Denot) → Draws k.meaning k.held left l.sink s → Draws k.meaning k.held all l.initial.sink s) ×
     TakenBy (k.meaning l.sink) left ×
     ((m : ℕ) × Fits rs l.depth m l.inner)
 

@@ -5,13 +5,9 @@ use Rattle.mesh.specs.Sinks.{Sink, Writes, nothing, a_number, a_break}
 use Rattle.mesh.specs.Strips.{offset_by}
 use Rattle.strips.specs.Taking.{taken_or_full}
 use Rattle.strips.specs.Writing.{first_too_large, too_large_or}
-use Rattle.strips.proofs.Free.{all-free, behind}
 use Rattle.strips.proofs.Refusing.{not_both}
 use Rattle.strips.proofs.Fitting.{none_too_large, push_taken, break_taken}
 use Rattle.strips.proofs.writing.write_strip.Goals as goal
-
-pub loop-number-init : goal.loop-number-init
-loop-number-init g c = let f = all-free (g.K.Sink.free c.args.sink.now) in search rules
 
 pub overflow_add-number : goal.overflow_add-number
 overflow_add-number g c =
@@ -39,13 +35,11 @@ loop-number-preserved g c =
     let o = c.args.offset in
     let s : Sink = g.K.Sink.meaning c.loop-number.sink in
     let h : i < length xs = omega arith in
-    let free = g.K.Sink.free in
     let n : length xs - i ≡ suc (length xs - (i + 1)) = omega arith in
     let u = c.push.ensures.accepted c.in_ok-push.was in (
       λ t w. c.loop-number.invariant.0 t (subst (λ (l : List ℕ). Writes (offset_by o (l ∷ [])) s t) (sym (drop_more xs i 0 h)) (a_number u w)),
       u.takes_still (length xs - (i + 1)) 1 (subst (λ (m : ℕ). T (s.takes m 1)) n c.loop-number.invariant.1),
       c.push.ensures.holds ∙ c.loop-number.invariant.2,
-      behind (free c.args.sink.now) (free c.loop-number.sink) (free c.push.new.self) c.loop-number.invariant.3 (c.push.ensures.left c.in_ok-push.was),
     )
 
 pub returns : goal.returns
@@ -56,7 +50,6 @@ returns g c =
     let first : Sink = g.K.Sink.meaning c.args.sink.now in
     let s : Sink = g.K.Sink.meaning c.loop-number.sink in
     let t : Sink = g.K.Sink.meaning c.end_strip.new.self in
-    let free = g.K.Sink.free in
     let h : length xs ≤ i = omega arith in
     let ok = c.end_strip.ensures.answers ∙ break_taken s (length xs - i) c.loop-number.invariant.1 in
     record {
@@ -65,7 +58,6 @@ returns g c =
           ∙ sym (ap (λ r. too_large_or r (taken_or_full first (length xs) 1)) (sym c.in_default.ensures)
           ∙ ap (λ b. cond b (Ok tt) (Err (SinkFull (length xs) 1))) (sym c.if-not-can_take.ensures));
       accepted = λ q. c.loop-number.invariant.0 t (subst (λ (l : List ℕ). Writes (offset_by o (l ∷ [])) s t) (sym (drop_all i xs h)) (a_break (c.end_strip.ensures.accepted q) nothing));
-      left = λ q. behind (free c.args.sink.now) (free c.loop-number.sink) (free c.end_strip.new.self) c.loop-number.invariant.3 (c.end_strip.ensures.left q);
       refused = λ e q. absurd (not_both c.end_strip.result tt e ok q);
       holds = c.end_strip.ensures.holds ∙ c.loop-number.invariant.2;
     }

@@ -1,7 +1,6 @@
 use Rattle.std.proofs.Common.{◌≡◌, ◌+◌, ◌-◌, T, [], ◌∷◌, length, drop}
 use Rattle.mesh.specs.Sinks.{Sink, Writes}
 use Rattle.mesh.specs.Strips.{offset_by}
-use Rattle.strips.specs.Free.{Behind}
 use Rattle.strips.proofs.writing.write_strip.Given as goal
 
 -- whatever writes the numbers left, and a break, has written all
@@ -11,5 +10,4 @@ invariant-loop-number g l =
     let left = drop l.number-index l.numbers in
     ((t : Sink) → Writes (offset_by l.offset (left ∷ [])) (k.meaning l.sink) t → Writes (offset_by l.offset (l.numbers ∷ [])) (k.meaning l.initial.sink) t) ×
     T ((k.meaning l.sink).takes (length l.numbers - l.number-index) 1) ×
-    (k.held l.sink ≡ k.held l.initial.sink) ×
-    Behind (k.free l.initial.sink) (k.free l.sink)
+    (k.held l.sink ≡ k.held l.initial.sink)

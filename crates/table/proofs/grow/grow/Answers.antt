@@ -26,15 +26,15 @@ subdivide_all-total-requires c =
     let P = vec_len t.points in
     let ts = vec_items t.triangles in
     let fs = vec_items t.forward in
-    let p = sym c.deref-mut.ensures.value in
-    let q = sym c.deref-mut-2.ensures.value in
-    let r = sym c.deref-mut-3.ensures.value in
+    let p = sym c.deref_mut.ensures.value in
+    let q = sym c.deref_mut-2.ensures.value in
+    let r = sym c.deref_mut-3.ensures.value in
     let l : WithinLimits (length es) (length cs) t.total = limits P ts fs es cs rs t.n t.total t.sound in
     record {
-      stands = stands_same t.n es c.deref-mut.result.now cs c.deref-mut-2.result.now rs c.deref-mut-3.result.now p q r
+      stands = stands_same t.n es c.deref_mut.result.now cs c.deref_mut-2.result.now rs c.deref_mut-3.result.now p q r
           (stands P ts fs es cs rs t.n t.total t.sound);
       count = c.requires;
-      limits = subst (λ (e : ℕ). WithinLimits e (length c.deref-mut-2.result.now) t.total) (ap length p)
+      limits = subst (λ (e : ℕ). WithinLimits e (length c.deref_mut-2.result.now) t.total) (ap length p)
           (subst (λ (k : ℕ). WithinLimits (length es) k t.total) (ap length q) l);
     }
 
@@ -47,10 +47,10 @@ invariant_of-table c =
     let y : vec_items (with_items t.contents s.new.contents) ≡ s.new.contents = with_items_is t.contents s.new.contents (search rules) in
     let z : vec_items (with_items t.rings s.new.rings) ≡ s.new.rings = with_items_is t.rings s.new.rings (search rules) in
     let many : length (vec_items (with_items t.edges s.new.edges)) ≡ length (vec_items t.edges) = search rules in
-    let numbered = renamed t.n a t.total s.result (vec_items t.edges) c.deref-mut.result.now s.new.edges (vec_items (with_items t.edges s.new.edges))
-    (vec_items t.contents) c.deref-mut-2.result.now s.new.contents (vec_items (with_items t.contents s.new.contents))
-    (vec_items t.rings) c.deref-mut-3.result.now s.new.rings (vec_items (with_items t.rings s.new.rings))
-    c.deref-mut.ensures.value c.deref-mut-2.ensures.value c.deref-mut-3.ensures.value x y z s.ensures.numbered in
+    let numbered = renamed t.n a t.total s.result (vec_items t.edges) c.deref_mut.result.now s.new.edges (vec_items (with_items t.edges s.new.edges))
+    (vec_items t.contents) c.deref_mut-2.result.now s.new.contents (vec_items (with_items t.contents s.new.contents))
+    (vec_items t.rings) c.deref_mut-3.result.now s.new.rings (vec_items (with_items t.rings s.new.rings))
+    c.deref_mut.ensures.value c.deref_mut-2.ensures.value c.deref_mut-3.ensures.value x y z s.ensures.numbered in
     let st = stands_same (t.n + a) s.new.edges (vec_items (with_items t.edges s.new.edges)) s.new.contents (vec_items (with_items t.contents s.new.contents))
     s.new.rings (vec_items (with_items t.rings s.new.rings)) (sym x) (sym y) (sym z) s.ensures.stands in (
       sound_grown (vec_len t.points) (vec_items t.triangles) (vec_items t.forward) (vec_items t.edges) (vec_items t.contents) (vec_items t.rings) t.n t.total
@@ -68,10 +68,10 @@ returns c =
     let z : vec_items (with_items t.rings s.new.rings) ≡ s.new.rings = with_items_is t.rings s.new.rings (search rules) in
     let many : length (vec_items (with_items t.edges s.new.edges)) ≡ length (vec_items t.edges) = search rules in
     record {
-      numbered = renamed t.n c.args.amount t.total s.result (vec_items t.edges) c.deref-mut.result.now s.new.edges
-          (vec_items (with_items t.edges s.new.edges)) (vec_items t.contents) c.deref-mut-2.result.now s.new.contents
-          (vec_items (with_items t.contents s.new.contents)) (vec_items t.rings) c.deref-mut-3.result.now s.new.rings
-          (vec_items (with_items t.rings s.new.rings)) c.deref-mut.ensures.value c.deref-mut-2.ensures.value c.deref-mut-3.ensures.value x y z
+      numbered = renamed t.n c.args.amount t.total s.result (vec_items t.edges) c.deref_mut.result.now s.new.edges
+          (vec_items (with_items t.edges s.new.edges)) (vec_items t.contents) c.deref_mut-2.result.now s.new.contents
+          (vec_items (with_items t.contents s.new.contents)) (vec_items t.rings) c.deref_mut-3.result.now s.new.rings
+          (vec_items (with_items t.rings s.new.rings)) c.deref_mut.ensures.value c.deref_mut-2.ensures.value c.deref_mut-3.ensures.value x y z
           s.ensures.numbered;
       based = record { points = refl; triangles = refl; edges = many };
     }

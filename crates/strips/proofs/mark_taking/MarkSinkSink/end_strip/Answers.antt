@@ -1,7 +1,6 @@
 use Rattle.std.proofs.Common.{◌≡◌, ℕ, ◌-◌, ◌<◌, ◌≤◌, true, cond, leb, length, Ok, Err, sym, refl, ap, arith, rules, le-leb}
 use Rattle.refusal.specs.declared.Refusal.TheVariants.{SinkFull}
 use Rattle.strips.proofs.Marks.{mark_break}
-use Rattle.strips.proofs.Free.{one-used}
 use Rattle.strips.proofs.Refusing.{not_both}
 use Rattle.strips.proofs.mark_taking.MarkSinkSink.end_strip.Goals as goal
 
@@ -14,7 +13,6 @@ returns c =
     record {
       answers = sym (ap (λ t. cond t (Ok tt) (Err (SinkFull 0 1))) (le-leb 1 (length xs - u) r));
       accepted = λ _. mark_break u xs h;
-      left = λ _. (one-used xs u 4294967295, tt);
       refused = λ f q. absurd (not_both (Ok tt) tt f refl q);
       holds = refl;
     }

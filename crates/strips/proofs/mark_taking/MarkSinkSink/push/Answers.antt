@@ -3,7 +3,6 @@ use Rattle.refusal.specs.declared.Refusal.TheVariants.{NumberTooLarge, SinkFull}
 use Rattle.strips.specs.Marks.{mark_sink}
 use Rattle.strips.specs.Taking.{taken_or_full}
 use Rattle.strips.proofs.Marks.{mark_push}
-use Rattle.strips.proofs.Free.{one-used}
 use Rattle.strips.proofs.Refusing.{not_both}
 use Rattle.strips.proofs.mark_taking.MarkSinkSink.push.Goals as goal
 
@@ -19,7 +18,6 @@ returns c =
     record {
       answers = sym (ap (λ t. cond t (Err (NumberTooLarge x)) (taken_or_full (mark_sink u xs) 1 0)) n ∙ ap (λ t. cond t (Ok tt) (Err (SinkFull 1 0))) b);
       accepted = λ _. mark_push u xs x h n;
-      left = λ _. (one-used xs u x, tt);
       refused = λ f q. absurd (not_both (Ok tt) tt f refl q);
       holds = refl;
     }

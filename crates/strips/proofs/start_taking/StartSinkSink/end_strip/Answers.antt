@@ -1,7 +1,6 @@
 use Rattle.std.proofs.Common.{◌≡◌, ℕ, ◌-◌, ◌<◌, ◌≤◌, true, cond, ◌&&◌, leb, length, Ok, Err, sym, refl, ap, ◌∙◌, arith, rules, le-leb}
 use Rattle.refusal.specs.declared.Refusal.TheVariants.{SinkFull}
 use Rattle.strips.proofs.Starts.{start_break, break_within}
-use Rattle.strips.proofs.Free.{one-used}
 use Rattle.strips.proofs.Refusing.{not_both}
 use Rattle.strips.proofs.start_taking.StartSinkSink.end_strip.Goals as goal
 
@@ -10,7 +9,7 @@ invariant_of-self c =
     let es = c.args.self.now.starts.now in
     let d = c.args.self.now.breaks in
     let h : d < length es = search rules in
-    (break_within d es c.args.self.now.used h c.args.self.now.within, tt)
+    record { within = break_within d es c.args.self.now.used h c.args.self.now.within }
 
 pub returns : goal.returns
 returns c =
@@ -25,7 +24,6 @@ returns c =
           sym (ap (λ t. cond (t && leb 1 (length es - d)) (Ok tt) (Err (SinkFull 0 1))) (le-leb 0 (length xs - u) (omega arith))
           ∙ ap (λ t. cond t (Ok tt) (Err (SinkFull 0 1))) (le-leb 1 (length es - d) r));
       accepted = λ _. start_break u xs d es h;
-      left = λ _. ((0, refl), (one-used es d c.args.self.now.used, tt));
       refused = λ f q. absurd (not_both (Ok tt) tt f refl q);
       holds = refl;
     }

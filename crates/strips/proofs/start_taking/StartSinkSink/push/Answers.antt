@@ -3,7 +3,6 @@ use Rattle.refusal.specs.declared.Refusal.TheVariants.{NumberTooLarge, SinkFull}
 use Rattle.strips.specs.Starts.{start_sink}
 use Rattle.strips.specs.Taking.{taken_or_full}
 use Rattle.strips.proofs.Starts.{start_push}
-use Rattle.strips.proofs.Free.{one-used}
 use Rattle.strips.proofs.Refusing.{not_both}
 use Rattle.strips.proofs.start_taking.StartSinkSink.push.Goals as goal
 
@@ -25,7 +24,6 @@ returns c =
           ∙ ap (λ t. cond (t && leb 0 (length es - d)) (Ok tt) (Err (SinkFull 1 0))) b
           ∙ ap (λ t. cond t (Ok tt) (Err (SinkFull 1 0))) z);
       accepted = λ _. start_push u xs d es x h c.args.self.now.within;
-      left = λ _. (one-used xs u x, ((0, refl), tt));
       refused = λ f q. absurd (not_both (Ok tt) tt f refl q);
       holds = refl;
     }
