@@ -52,12 +52,11 @@ invariant_of-table c =
     (vec_items t.rings) c.deref_mut-3.result.now s.new.rings (vec_items (with_items t.rings s.new.rings))
     c.deref_mut.ensures.value c.deref_mut-2.ensures.value c.deref_mut-3.ensures.value x y z s.ensures.numbered in
     let st = stands_same (t.n + a) s.new.edges (vec_items (with_items t.edges s.new.edges)) s.new.contents (vec_items (with_items t.contents s.new.contents))
-    s.new.rings (vec_items (with_items t.rings s.new.rings)) (sym x) (sym y) (sym z) s.ensures.stands in (
-      sound_grown (vec_len t.points) (vec_items t.triangles) (vec_items t.forward) (vec_items t.edges) (vec_items t.contents) (vec_items t.rings) t.n t.total
+    s.new.rings (vec_items (with_items t.rings s.new.rings)) (sym x) (sym y) (sym z) s.ensures.stands in record {
+      sound = sound_grown (vec_len t.points) (vec_items t.triangles) (vec_items t.forward) (vec_items t.edges) (vec_items t.contents) (vec_items t.rings) t.n t.total
           a (vec_items (with_items t.edges s.new.edges)) (vec_items (with_items t.contents s.new.contents)) (vec_items (with_items t.rings s.new.rings)) s.result
-          many numbered c.requires st t.sound,
-      tt,
-    )
+          many numbered c.requires st t.sound;
+    }
 
 pub returns : goal.returns
 returns c =
