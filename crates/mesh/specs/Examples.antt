@@ -91,16 +91,16 @@ pub record Examples : Type 0 where
   pub not_to_13 : too_often (made 3 3 1 5) 8 ≡ Some (SubdividedTooOften 5 8)
   pub last-triangle : refusal square (made 4 5 2 2) (triangle-faces 1 27) ≡ None
   pub no_triangle : refusal square (made 4 5 2 2) (triangle-faces 2 0) ≡ Some (NoTriangle 2 2)
-  pub triangle-room_short : refusal square (made 4 5 2 2) (triangle-faces 1 26) ≡ Some (BufferTooShort 27 26)
+  pub triangle_room_short : refusal square (made 4 5 2 2) (triangle-faces 1 26) ≡ Some (BufferTooShort 27 26)
   pub room_met : refusal square (made 4 5 2 2) (all-faces 54) ≡ None
-  pub room-short : refusal square (made 4 5 2 2) (all-faces 53) ≡ Some (BufferTooShort 54 53)
+  pub room_short : refusal square (made 4 5 2 2) (all-faces 53) ≡ Some (BufferTooShort 54 53)
   -- ten vertices
   pub offset_met : refusal one-triangle (made 3 3 1 2) (all_lines 4294967285 (space 22 5)) ≡ None
   pub offset_over : refusal one-triangle (made 3 3 1 2) (all_lines 4294967286 (space 0 0)) ≡ Some (NumberTooLarge 4294967295)
   pub no_lines_there : refusal one-triangle (made 3 3 1 2) (triangle_lines 1 4294967286 (space 0 0)) ≡ Some (NoTriangle 1 1)
   -- 10 numbers and 2 breaks for the triangle, 4 numbers and a break for each edge
-  pub numbers-short : refusal one-triangle (made 3 3 1 2) (all_lines 0 (space 21 5)) ≡ Some (SinkFull 22 5)
-  pub breaks-short : refusal one-triangle (made 3 3 1 2) (all_lines 0 (space 22 4)) ≡ Some (SinkFull 22 5)
+  pub numbers_short : refusal one-triangle (made 3 3 1 2) (all_lines 0 (space 21 5)) ≡ Some (SinkFull 22 5)
+  pub breaks_short : refusal one-triangle (made 3 3 1 2) (all_lines 0 (space 22 4)) ≡ Some (SinkFull 22 5)
   pub major_met : refusal one-triangle (made 3 3 1 2) (major_lines 0 (space 12 3)) ≡ None
   pub major_short : refusal one-triangle (made 3 3 1 2) (major_lines 0 (space 12 2)) ≡ Some (SinkFull 12 3)
   pub triangle_lines_met : refusal one-triangle (made 3 3 1 2) (triangle_lines 0 0 (space 10 1)) ≡ None

@@ -156,7 +156,7 @@ front b l t = both_left b (pass l) t
 -- what the tests at n have shown
 pub record Passed (n : ℕ) : Type 0 where
   pub drawn_are : T (drawn n)
-  pub spots-are : T (spots n)
+  pub spots_are : T (spots n)
   pub once_is : T (once n)
   pub paired_is : T (paired n)
   pub apart_are : T (apart n)
@@ -165,7 +165,7 @@ pub record Passed (n : ℕ) : Type 0 where
   pub borders_are : T (borders n)
   pub follows_is : T (follows n)
   pub splits_are : T (splits n)
-  pub sizes-are : T (sizes n)
+  pub sizes_are : T (sizes n)
 
 pub passed : (n : ℕ) → n ≤ 12 → Passed n
 passed n h =
@@ -192,7 +192,7 @@ passed n h =
     let t9 = rest (splits n) l9 t8 in
     record {
       drawn_are = front (drawn n) l0 t;
-      spots-are = front (spots n) l1 t0;
+      spots_are = front (spots n) l1 t0;
       once_is = front (once n) l2 t1;
       paired_is = front (paired n) l3 t2;
       apart_are = front (apart n) l4 t3;
@@ -201,7 +201,7 @@ passed n h =
       borders_are = front (borders n) l7 t6;
       follows_is = front (follows n) l8 t7;
       splits_are = front (splits n) l9 t8;
-      sizes-are = front (sizes n) [] t9;
+      sizes_are = front (sizes n) [] t9;
     }
 
 -- a test that passes at 0 to k passes at each

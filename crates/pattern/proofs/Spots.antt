@@ -73,17 +73,17 @@ module _ (n : ℕ) (h : n ≤ 12) where
   breaks? = eqb (length (spot_strips n)) (triangle_line_breaks n)
 
   pub s_faces : length (spot_faces n) ≡ (n + 1) * (n + 1)
-  s_faces = eqb→eq (length (spot_faces n)) ((n + 1) * (n + 1)) (both_left faces? (both numbers? breaks?) (passed n h).sizes-are)
+  s_faces = eqb→eq (length (spot_faces n)) ((n + 1) * (n + 1)) (both_left faces? (both numbers? breaks?) (passed n h).sizes_are)
 
   pub s_numbers : lengths (spot_strips n) ≡ triangle_line_numbers n
   s_numbers =
       eqb→eq (lengths (spot_strips n)) (triangle_line_numbers n)
-      (both_left numbers? breaks? (both_right faces? (both numbers? breaks?) (passed n h).sizes-are))
+      (both_left numbers? breaks? (both_right faces? (both numbers? breaks?) (passed n h).sizes_are))
 
   pub s_breaks : length (spot_strips n) ≡ triangle_line_breaks n
   s_breaks =
       eqb→eq (length (spot_strips n)) (triangle_line_breaks n)
-      (both_right numbers? breaks? (both_right faces? (both numbers? breaks?) (passed n h).sizes-are))
+      (both_right numbers? breaks? (both_right faces? (both numbers? breaks?) (passed n h).sizes_are))
 
 pub s_splits : (n : ℕ) → n ≤ 12 → T (every (split n) (all_spots n))
 s_splits n h = (passed n h).splits_are
@@ -92,7 +92,7 @@ pub s_drawn : (n : ℕ) → n ≤ 12 → T (every (every (is_spot n)) (spot_stri
 s_drawn n h = (passed n h).drawn_are
 
 pub s_spots : (n : ℕ) → n ≤ 12 → T (every (ends n) (spot_sides n))
-s_spots n h = (passed n h).spots-are
+s_spots n h = (passed n h).spots_are
 
 -- no side goes from a spot to itself
 pub no_loop : (n : ℕ) → n ≤ 12 → (p : Spot) → count eq_spot p p (spot_sides n) ≡ 0

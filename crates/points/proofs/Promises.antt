@@ -15,7 +15,7 @@ use Rattle.mesh.proofs.Whole.{sides-once, strips-once}
 use Rattle.points.specs.Calculating.{calculated}
 use Rattle.points.specs.Promises.{Both, BothFace, point_faces, FixedBy, Placed, CountOfRuns, PlacedOfRuns, VerticesOfRuns, FacesOfRuns, StripsOfRuns, PointsOfRuns, Vec3AOfRuns}
 use Rattle.points.proofs.Alike.{buffers_like}
-use Rattle.points.proofs.Runs.{Kept, kept, counted, reached-count, accepted-base}
+use Rattle.points.proofs.Runs.{Kept, kept, counted, reached_count, accepted-base}
 use Rattle.points.proofs.Where.{points-placed}
 
 pub vertices_of_runs : (Point Frac : Type 0) → VerticesOfRuns Point Frac
@@ -24,7 +24,7 @@ vertices_of_runs Point Frac share blank M N F r =
 
 pub count_of_runs : (Point Frac : Type 0) → CountOfRuns Point Frac
 count_of_runs Point Frac share blank M N F r =
-    (counted share blank M N F r, reached-count (length M.points) M.edges M.triangles N (kept share blank M N F r).reached)
+    (counted share blank M N F r, reached_count (length M.points) M.edges M.triangles N (kept share blank M N F r).reached)
 
 pub placed_of_runs : (Point Frac : Type 0) → PlacedOfRuns Point Frac
 placed_of_runs Point Frac share blank M N F r =

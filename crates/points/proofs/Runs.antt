@@ -10,8 +10,8 @@ use Rattle.points.specs.Calculating.{Meaning, calculated}
 use Rattle.points.specs.Promises.{Run}
 use Rattle.points.specs.Runs.{State, pending, settled, Call, subdivide, calculate, reopen, ask, after_call, after, added, added_by}
 
-made-reached : (P E : ℕ) (ts : List Triangle) (n : ℕ) (N : Numbering) → Making P E ts n (Ok tt) N → Reached P E ts N
-made-reached P E ts n N (accepted h A l) = making n h
+made_reached : (P E : ℕ) (ts : List Triangle) (n : ℕ) (N : Numbering) → Making P E ts n (Ok tt) N → Reached P E ts N
+made_reached P E ts n N (accepted h A l) = making n h
 
 made-accepted : (P E : ℕ) (ts : List Triangle) (n : ℕ) (N : Numbering) → Making P E ts n (Ok tt) N → Accepted P E ts
 made-accepted P E ts n N (accepted h A l) = A
@@ -19,9 +19,9 @@ made-accepted P E ts n N (accepted h A l) = A
 made-count : (P E : ℕ) (ts : List Triangle) (n : ℕ) (N : Numbering) → Making P E ts n (Ok tt) N → N.n ≡ n
 made-count P E ts n N (accepted h A l) = refl
 
-pub reached-count : (P E : ℕ) (ts : List Triangle) (N : Numbering) → Reached P E ts N → N.n ≤ 12
-reached-count P E ts N (making n h) = h
-reached-count P E ts N (subdividing amount r h) = h
+pub reached_count : (P E : ℕ) (ts : List Triangle) (N : Numbering) → Reached P E ts N → N.n ≤ 12
+reached_count P E ts N (making n h) = h
+reached_count P E ts N (subdividing amount r h) = h
 
 module _ {Point Frac : Type 0} (share : ℕ → ℕ → Frac) (blank : Point) (M : Meaning Point Frac) where
   pub record Kept (N : Numbering) (F : List Point) : Type 0 where
@@ -56,7 +56,7 @@ module _ {Point Frac : Type 0} (share : ℕ → ℕ → Frac) (blank : Point) (M
   pub kept : (N : Numbering) (F : List Point) → Run share blank M N F → Kept N F
   kept N F r =
       subst Sound r.leads
-      (after_sound r.calls (pending r.first) (made-reached (length M.points) M.edges M.triangles r.n r.first r.making))
+      (after_sound r.calls (pending r.first) (made_reached (length M.points) M.edges M.triangles r.n r.first r.making))
 
   -- ---- the count
   abbrev count_of : State Point → ℕ

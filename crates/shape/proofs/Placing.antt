@@ -65,5 +65,5 @@ module _ {X : Type 0} (g : ℕ → X) where
       record {
         same_length = placed-length xs 0 l;
         last-stands = λ i d h f b. placed-last xs 0 l i d h f b ∙ ap g (let z : 0 + i ≡ i = omega arith in z);
-        others-left = λ k d f. placed-other xs 0 l k d f;
+        others_left = λ k d f. placed-other xs 0 l k d f;
       }

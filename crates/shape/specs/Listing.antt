@@ -30,7 +30,7 @@ module _ {X : Type 0} where
     pub last-stands :
         (i : ℕ) (d : X) → i < length xs → ((j : ℕ) → i < j → j < length xs → slice_index xs j ≢ slice_index xs i) → slice_index xs i < length old
         → slice_index_or new (slice_index xs i) d ≡ g i
-    pub others-left : (k : ℕ) (d : X) → ((i : ℕ) → i < length xs → slice_index xs i ≢ k) → slice_index_or new k d ≡ slice_index_or old k d
+    pub others_left : (k : ℕ) (d : X) → ((i : ℕ) → i < length xs → slice_index xs i ≢ k) → slice_index_or new k d ≡ slice_index_or old k d
 
 -- the points, place by place of the list, that f gives at 1 / (n + 1), 2 / (n + 1), .., n / (n + 1)
 abbrev pub along : (Float → Vec3A) → List ℕ → List Vec3A → List Vec3A
