@@ -1,10 +1,8 @@
 -- The writes of a view of a triangle of a mesh are the triangle's.
-use Rattle.std.proofs.Common.{◌≡◌, ℕ, ◌<◌, ◌≤◌, Bool, true, false, cond, List, [], ◌∷◌, ◌++◌, length, get_or, sym, refl, ap, ◌∙◌, subst, ap₂, append_assoc, arith}
-use lib.Ieee.{Float}
+use Rattle.std.proofs.Common.{◌≡◌, ℕ, Bool, cond, List, [], ◌∷◌, ◌++◌, length, get_or, sym, ap, ◌∙◌, ap₂, append_assoc, arith}
 use Rattle.pattern.specs.Place.{Patch, reading}
 use Rattle.pattern.specs.Step.{view}
-use Rattle.point.specs.declared.Vec3A.{Vec3A}
-use Rattle.points.specs.Calculating.{Write, along, contents_writes, edge_writes, patch_writes}
+use Rattle.points.specs.Calculating.{along, contents_writes, patch_writes}
 use Rattle.rings.specs.declared.contents.Side.TheVariants.{Ab, Bc, Ca}
 use Rattle.rings.specs.declared.ring_view.RingView.{RingView}
 use Rattle.rings.specs.declared.slice.Slice.{Slice}
@@ -12,8 +10,7 @@ use Rattle.rings.specs.declared.slice.Slice.TheVariants.{Forward, Backward}
 use Rattle.rings.specs.Slices.{read, Reads}
 use Rattle.rings.specs.Views.{ShowsPatch, inside}
 use Rattle.rings.proofs.Patches.{long_patch, read_patch}
-use Rattle.calculating.specs.Rules.{wrote}
-use Rattle.calculating.specs.ViewWrites.{slice_writes, edges_writes, inside_writes, view_writes}
+use Rattle.calculating.specs.ViewWrites.{slice_writes, inside_writes, view_writes}
 use Rattle.calculating.proofs.Inside.{contents-agree}
 
 -- an edge, which is written where it is read forward

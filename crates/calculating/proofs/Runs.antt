@@ -1,9 +1,8 @@
 -- Writes in turn, and writes that are the same under other names.
-use Rattle.std.proofs.Common.{◌≡◌, ℕ, zero, suc, ◌+◌, ◌<◌, ◌≤◌, true, cond, ltb, leb, List, [], ◌∷◌, ◌++◌, length, get_or, sym, refl, ap, ◌∙◌, arith}
+use Rattle.std.proofs.Common.{◌≡◌, ℕ, suc, ◌<◌, ◌≤◌, true, cond, ltb, leb, List, [], ◌∷◌, ◌++◌, length, get_or, sym, refl, ap, ◌∙◌, arith}
 use lib.Ieee.{Float}
-use Rattle.pattern.specs.Ring.{up}
 use Rattle.point.specs.declared.Vec3A.{Vec3A}
-use Rattle.points.specs.Calculating.{Meaning, Write, put, middle, along, at, run}
+use Rattle.points.specs.Calculating.{Write, put, middle, along, at}
 use Rattle.points.proofs.Listed.{along-stands}
 use Rattle.points.proofs.Writes.{run_long}
 use Rattle.shape.specs.Listing.{share, placed, all-below, listable}

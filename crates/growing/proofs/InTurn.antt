@@ -1,5 +1,5 @@
 -- Steps of each triangle's contents in turn.
-use Rattle.std.proofs.Common.{◌≡◌, ℕ, ◌+◌, ◌-◌, ◌*◌, ◌<◌, ◌≤◌, ◌≢◌, ◌⊎◌, List, [], ◌∷◌, ◌++◌, length, take, drop, set, sym, ap, ◌∙◌, subst, ap₂, inl, inr, arith, below_more}
+use Rattle.std.proofs.Common.{◌≡◌, ℕ, ◌+◌, ◌*◌, ◌<◌, ◌≤◌, ◌≢◌, ◌⊎◌, List, [], ◌∷◌, ◌++◌, length, take, drop, set, sym, ap, ◌∙◌, subst, ap₂, inl, inr, arith, below_more}
 use Rattle.std.proofs.lemmas.List.{append_assoc, append-nil, map_push, get_or-map, length-map, length-set, length-take-le, length-drop, get_or-set_other, get_or-set_same, get_or-take, get_or-drop, take_more_set, take_all, drop-set-lt, drop_more, drop_all}
 use Rattle.std.proofs.lemmas.Bool.{cases_lt}
 use Rattle.pattern.specs.Step as numbered

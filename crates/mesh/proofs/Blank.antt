@@ -1,14 +1,14 @@
 -- The mesh of a refused making stays blank.
-use Rattle.std.proofs.Common.{◌≡◌, ℕ, ◌+◌, ◌*◌, ◌≤◌, Bool, true, false, cond, T, ltb, leb, List, [], Some, None, Option, sym, refl, ap, ◌∙◌, subst, arith}
+use Rattle.std.proofs.Common.{◌≡◌, ℕ, ◌+◌, ◌*◌, ◌≤◌, Bool, true, false, T, ltb, leb, [], Some, None, Option, sym, refl, ap, ◌∙◌, subst, arith}
 use Rattle.refusal.specs.declared.Refusal.{Refusal}
-use Rattle.refusal.specs.declared.Refusal.TheVariants.{NoTriangle, BufferTooShort, NumberTooLarge, SinkFull, DataTooShort}
+use Rattle.refusal.specs.declared.Refusal.TheVariants.{NoTriangle, BufferTooShort, DataTooShort}
 use Rattle.questions.proofs.Tests.{is_true}
 use Rattle.mesh.specs.Blank.{BlankMesh, BlankStands}
-use Rattle.mesh.specs.Calls.{Ask, triangle-faces, all-faces, triangle_lines, major_lines, all_lines, fill, first_no, unless, refusal, numbers_written, strips_written}
+use Rattle.mesh.specs.Calls.{Ask, triangle-faces, all-faces, triangle_lines, major_lines, all_lines, fill, first_no, unless, numbers_written, strips_written}
 use Rattle.mesh.specs.Faces.{all_face_numbers}
-use Rattle.mesh.specs.Numbering.{Numbering, Reached, making, subdividing, made, grown}
+use Rattle.mesh.specs.Numbering.{Numbering, Reached, making, subdividing, grown}
 use Rattle.mesh.specs.Sinks.{Sink}
-use Rattle.mesh.specs.Strips.{major_numbers, major_breaks, all_numbers, all_breaks}
+use Rattle.mesh.specs.Strips.{major_numbers, all_numbers, all_breaks}
 
 -- blank, after n subdivisions
 abbrev blank_at : ℕ → Numbering

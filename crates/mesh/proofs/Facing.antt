@@ -1,5 +1,5 @@
 -- A border as a triangle reads it, forward or backward, and the sides that it shows.
-use Rattle.std.proofs.Common.{◌≡◌, ℕ, zero, suc, ◌+◌, ◌-◌, ◌<◌, ◌≤◌, Bool, true, false, cond, List, [], ◌∷◌, ◌++◌, reverse, length, get_or, sym, refl, ap, ◌∙◌, ap₂, arith}
+use Rattle.std.proofs.Common.{◌≡◌, ℕ, suc, ◌+◌, ◌-◌, ◌<◌, Bool, true, false, cond, List, [], ◌∷◌, ◌++◌, reverse, length, get_or, sym, refl, ap, ◌∙◌, ap₂, arith}
 use mathlib.Core.List.{reverse-cons, reverse-append}
 use Rattle.pattern.specs.Place.{turned}
 use Rattle.pattern.specs.Sides.{Side, path_from, path_sides, back}

@@ -1,5 +1,5 @@
 -- The mesh that a refused making leaves, however often it is subdivided: it has no points, edges or triangles.
-use Rattle.std.specs.Prelude.{◌≡◌, ℕ, ◌≤◌, T, List, [], Some, None}
+use Rattle.std.specs.Prelude.{◌≡◌, ℕ, ◌≤◌, T, [], Some, None}
 use Rattle.refusal.specs.declared.Refusal.TheVariants.{NoTriangle}
 use Rattle.mesh.specs.Calls.{Ask, triangle-faces, all-faces, triangle_lines, major_lines, all_lines, fill, refusal, numbers_written, strips_written}
 use Rattle.mesh.specs.Numbering.{Numbering, Reached}

@@ -3,13 +3,13 @@ use Rattle.std.specs.Prelude.{◌≡◌, ℕ, ◌+◌, ◌-◌, ◌^◌, min, Li
 use Rattle.line.specs.declared.instruction.Instruction.{Instruction}
 use Rattle.line.specs.declared.expected.Expected.{Expected}
 use Rattle.order.specs.declared.fault.Fault.{Fault}
-use Rattle.order.specs.declared.fault.Fault.TheVariants.{Unread, Memory}
+use Rattle.order.specs.declared.fault.Fault.TheVariants.{Unread}
 use Rattle.order.specs.declared.report.Report.{Report}
 use Rattle.order.specs.declared.reader.Reader.{Reader}
 use Rattle.order.specs.declared.reader.Problem.{Problem}
 use Rattle.line.specs.Words.{words}
 use Rattle.line.specs.Lines.{Means}
-use Rattle.order.specs.Drafts.{Sheet, sheet, ended, Answered}
+use Rattle.order.specs.Drafts.{Sheet, sheet, Answered}
 
 -- what a line that means m makes of a sheet: one that cannot be read, or has no word, leaves it
 abbrev pub Follows : Result (Option Instruction) Expected → Sheet → Result (Option Report) Fault → Sheet → Type 0

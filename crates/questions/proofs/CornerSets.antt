@@ -1,12 +1,12 @@
 -- Question 8: all triangles have different sets of corners.
-use Rattle.std.proofs.Common.{◌≡◌, ℕ, Bool, true, not, ◌&&◌, ◌||◌, T, eqb, ◌⊎◌, List, [], ◌∷◌, ◌++◌, sym, refl, subst, inl, inr, eqb→eq, T_not}
+use Rattle.std.proofs.Common.{◌≡◌, ℕ, not, ◌&&◌, ◌||◌, T, eqb, ◌⊎◌, List, [], ◌∷◌, ◌++◌, sym, refl, subst, inl, inr, eqb→eq, T_not}
 use lib.Dec.{not_T}
 use Rattle.shape.specs.declared.triangle.Triangle.{Triangle}
 use Rattle.shape.specs.Lists.{In, Each, Pairs}
 use Rattle.shape.specs.Sides.{corners}
 use Rattle.shape.specs.Questions.{Differ, DifferentSets}
 use Rattle.questions.specs.declared.question.Question.TheVariants.{DifferentSets as AsksSets}
-use Rattle.questions.specs.Tests.{every, has_corner, covered, same_corners, pair, passes}
+use Rattle.questions.specs.Tests.{has_corner, covered, same_corners, pair, passes}
 use Rattle.questions.proofs.Tests.{and_left, and_right, and_in, or_out, or_left, or_right, eq→eqb, every-at, every_in}
 use Rattle.questions.proofs.Stepwise.{Stepwise}
 

@@ -1,6 +1,5 @@
 -- Question 6: each edge number joins one pair of corners, and each pair has one edge number.
-use Rattle.std.proofs.Common.{◌≡◌, ℕ, Bool, true, false, not, ◌&&◌, ◌||◌, T, eqb, ◌⊎◌, List, [], ◌∷◌, ◌++◌, sym, subst, inl, inr, eqb→eq, T_not}
-use lib.Dec.{not_T}
+use Rattle.std.proofs.Common.{◌≡◌, Bool, true, false, ◌&&◌, T, eqb, ◌⊎◌, List, [], ◌∷◌, ◌++◌, sym, subst, inl, inr, eqb→eq}
 use Rattle.shape.specs.declared.triangle.Triangle.{Triangle}
 use Rattle.shape.specs.Lists.{In}
 use Rattle.shape.specs.Sides.{Use, uses, SameEnds}
@@ -8,7 +7,7 @@ use Rattle.shape.specs.Questions.{EdgesMatch}
 use Rattle.questions.specs.declared.question.Question.TheVariants.{EdgesMatch as AsksEdges}
 use Rattle.questions.specs.Tests.{every, same_bool, same_ends, matches, agree, sides_agree, pair, passes}
 use Rattle.questions.proofs.Tests.{and_left, and_right, and_in, or_out, or_left, or_right, eq→eqb, every-at, every_in}
-use Rattle.questions.proofs.Sides.{in_left, in_right, in_split, uses-append, Owner, owner, owned}
+use Rattle.questions.proofs.Sides.{in_left, in_right, in_split, uses-append, owner, owned}
 use Rattle.questions.proofs.Stepwise.{Stepwise}
 
 ends_sound : (u v : Use) → T (same_ends u v) → SameEnds u v

@@ -1,15 +1,14 @@
 -- Question 7: each edge is used at most once in each direction.
-use Rattle.std.proofs.Common.{◌≡◌, ℕ, suc, ◌+◌, ◌≤◌, Bool, true, false, not, ◌&&◌, T, eqb, List, [], ◌∷◌, ◌++◌, sym, refl, ap, ◌∙◌, subst, arith, eqb→eq, T_not}
+use Rattle.std.proofs.Common.{◌≡◌, ℕ, ◌+◌, ◌≤◌, Bool, true, false, ◌&&◌, T, eqb, List, [], ◌∷◌, ◌++◌, sym, refl, ◌∙◌, subst, arith, eqb→eq, T_not}
 use native.Mathlib.Decide.{dec_le}
 use lib.Dec.{not_T}
 use Rattle.shape.specs.declared.triangle.Triangle.{Triangle}
-use Rattle.shape.specs.Lists.{In}
 use Rattle.shape.specs.Sides.{Use, walk, uses, both, tick, way_count}
 use Rattle.shape.specs.Questions.{OneWayEach, ThreeCorners}
 use Rattle.questions.specs.declared.question.Question.TheVariants.{OneWayEach as AsksWays}
-use Rattle.questions.specs.Tests.{every, same_way, agree, sides_agree, pair, passes}
+use Rattle.questions.specs.Tests.{every, same_way, agree, pair, passes}
 use Rattle.questions.proofs.Tests.{and_left, and_right, and_in, eq→eqb, every-at, every_in}
-use Rattle.questions.proofs.Sides.{in_left, in_right, uses-append, Owner, owner, owned, way_append, Walks, walks_out, Walked, walked, way_counted}
+use Rattle.questions.proofs.Sides.{uses-append, owner, owned, way_append, Walks, walks_out, walked, way_counted}
 use Rattle.questions.proofs.Stepwise.{Stepwise}
 
 same_way_lem : (u v : Use) → u.edge ≡ v.edge → u.start ≡ v.start → u.stop ≡ v.stop → T (same_way u v)

@@ -1,5 +1,5 @@
 -- The questions 4 and 5, which each triangle answers alone.
-use Rattle.std.proofs.Common.{◌≡◌, ℕ, Bool, true, not, ◌&&◌, T, eqb, ltb, List, [], ◌∷◌, ◌++◌, ltb→lt, lt→ltb}
+use Rattle.std.proofs.Common.{ℕ, Bool, true, not, ◌&&◌, eqb, ltb, [], ◌∷◌, ltb→lt, lt→ltb}
 use Rattle.shape.specs.declared.triangle.Triangle.{Triangle}
 use Rattle.shape.specs.Lists.{Each}
 use Rattle.shape.specs.Questions.{Below, ThreeCorners, InRange, DifferentCorners}

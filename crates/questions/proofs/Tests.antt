@@ -1,8 +1,8 @@
 -- Tests that compute, and what it means that one passes.
 use Rattle.std.proofs.Common.{◌≡◌, ℕ, Bool, true, false, not, ◌&&◌, ◌||◌, T, eqb, ◌⊎◌, List, [], ◌∷◌, sym, refl, subst, inl, inr, eqb→eq, T_not}
 use lib.Dec.{eqb_refl, not_T}
-use Rattle.shape.specs.Lists.{In, Each}
-use Rattle.questions.specs.Tests.{every, some}
+use Rattle.shape.specs.Lists.{In}
+use Rattle.questions.specs.Tests.{every}
 
 pub and_left : (a b : Bool) → T (a && b) → T a
 and_left true b t = tt

@@ -2,7 +2,7 @@
 use Rattle.std.proofs.Common.{◌≡◌, ℕ, zero, suc, ◌+◌, ◌<◌, ◌≤◌, Bool, true, false, cond, ◌||◌, T, eqb, ◌⊎◌, List, [], ◌∷◌, Some, None, Option, sym, refl, ap, subst, inl, inr, zero-add, arith, eqb→eq}
 use Rattle.shape.specs.declared.triangle.Triangle.{Triangle}
 use Rattle.shape.specs.Lists.{In}
-use Rattle.shape.specs.Sides.{Use, uses, corners, use_count, tick}
+use Rattle.shape.specs.Sides.{uses, corners, use_count, tick}
 use Rattle.shape.specs.Verdict.{FirstLacking, EdgeUsed, PointUsed}
 use Rattle.questions.specs.declared.used.Part.TheVariants.{Edge, Point}
 use Rattle.questions.specs.Tests.{some, touches, is_used, first_lack_from, first_lack}

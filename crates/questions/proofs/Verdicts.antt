@@ -1,16 +1,16 @@
 -- The computed answer is the verdict, and there is no other.
-use Rattle.std.proofs.Common.{◌≡◌, ℕ, ◌≤◌, Bool, true, false, cond, ◌&&◌, T, leb, List, [], ◌∷◌, length, Some, None, Ok, Err, Option, sym, refl, ap, ◌∙◌, subst, le→leb, leb→le}
+use Rattle.std.proofs.Common.{◌≡◌, ℕ, Bool, true, false, cond, ◌&&◌, T, leb, List, [], ◌∷◌, length, Some, None, Ok, Err, Option, sym, refl, ap, ◌∙◌, subst, le→leb, leb→le}
 use Rattle.refusal.specs.declared.Refusal.{Refusal}
 use Rattle.refusal.specs.declared.Refusal.TheVariants.{TriangleCount, PointOrEdgeCount, OutOfRange, RepeatedCorner, EdgeMismatch, EdgeDirection, RepeatedTriangle, Unused, TooManySubdivisions, TooManyVertices, SubdividedTooOften, NoTriangle, BufferTooShort, NumberTooLarge, SinkFull, InvalidListing, DataTooShort}
 use Rattle.refusal.specs.declared.Unused.TheVariants.{Edge as UnusedEdge, Point as UnusedPoint}
 use Rattle.shape.specs.declared.triangle.Triangle.{Triangle}
 use Rattle.shape.specs.Lists.{Each}
-use Rattle.shape.specs.Questions.{FewTriangles, FewPointsAndEdges, InRange, DifferentCorners, EdgesMatch, OneWayEach, DifferentSets, Accepted}
+use Rattle.shape.specs.Questions.{FewTriangles, FewPointsAndEdges, InRange, DifferentCorners, EdgesMatch, OneWayEach, DifferentSets}
 use Rattle.shape.specs.Verdict.{FailsFirstAt, EdgeUsed, PointUsed, YesTo3, YesTo4, YesTo5, YesTo6, YesTo7, YesTo8, Verdict}
 use Rattle.questions.specs.declared.question.Question.TheVariants.{InRange as AsksRange, DifferentCorners as AsksCorners, EdgesMatch as AsksEdges, OneWayEach as AsksWays, DifferentSets as AsksSets}
 use Rattle.questions.specs.declared.used.Part.TheVariants.{Edge, Point}
 use Rattle.questions.specs.Tests.{first_no, is_used, first_lack}
-use Rattle.questions.specs.Answer.{Answer, unless, and_then, few, sized, counts_answer, triangles_answer, used_answer, list_answer, answer}
+use Rattle.questions.specs.Answer.{Answer, unless, and_then, few, sized, counts_answer, used_answer, list_answer, answer}
 use Rattle.questions.proofs.Tests.{and_left, and_right, and_in, is_true, is_false}
 use Rattle.questions.proofs.Stepwise.{FirstAnswer, first_no_lem, one_answer}
 use Rattle.questions.proofs.RangeAndCorners.{range_stepwise, corners_stepwise}

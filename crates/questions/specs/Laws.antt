@@ -1,5 +1,5 @@
 -- What holds of the verdict on a base: there is one, and it is the expected one of these bases.
-use Rattle.std.specs.Prelude.{◌≡◌, ℕ, List, [], ◌∷◌, Ok, Err, Result}
+use Rattle.std.specs.Prelude.{◌≡◌, ℕ, List, [], ◌∷◌, Err, Result}
 use Rattle.refusal.specs.declared.Refusal.{Refusal}
 use Rattle.refusal.specs.Refusals.{refusal_number, refusal_triangle}
 use Rattle.shape.specs.declared.triangle.Triangle.{Triangle}

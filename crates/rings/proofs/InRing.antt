@@ -1,7 +1,7 @@
 -- Positions of contents that the table holds in a ring.
 use Rattle.std.proofs.Common.{◌≡◌, ℕ, zero, suc, ◌+◌, ◌*◌, ◌<◌, ◌≤◌, Bool, true, false, cond, leb, List, length, get_or, take, drop, Option, sym, refl, ap, ◌∙◌, ap₂, arith, leb-true}
 use Rattle.std.proofs.lemmas.List.{get_or-take, get_or-drop}
-use Rattle.pattern.specs.Ring.{Contents, on_side, positions, pos_ab, pos_bc, pos_ca}
+use Rattle.pattern.specs.Ring.{Contents, on_side, pos_ab, pos_bc, pos_ca}
 use Rattle.rings.specs.declared.contents.Ring.{Ring}
 use Rattle.rings.specs.declared.contents.Side.{Side}
 use Rattle.rings.specs.declared.contents.Side.TheVariants.{Ab, Bc, Ca}

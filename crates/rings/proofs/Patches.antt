@@ -1,5 +1,5 @@
 -- A view of a triangle of a mesh: it is whole, and agrees with the triangle.
-use Rattle.std.proofs.Common.{◌≡◌, ℕ, suc, ◌-◌, ◌<◌, ◌≤◌, Bool, true, false, List, reverse, length, get_or, sym, ap, ◌∙◌, subst, ap₂, arith}
+use Rattle.std.proofs.Common.{◌≡◌, ℕ, suc, ◌-◌, ◌<◌, Bool, List, length, get_or, sym, ap, ◌∙◌, subst, ap₂, arith}
 use lib.ListN.{length-reverse}
 use Rattle.std.proofs.lemmas.List.{get_or-reverse}
 use Rattle.pattern.specs.Place.{Patch, reading, turned}

@@ -1,5 +1,5 @@
 -- The contents that a table of rings holds, and which rings they own.
-use Rattle.std.specs.Prelude.{◌≡◌, ℕ, zero, suc, ◌+◌, ◌*◌, ◌<◌, ◌≤◌, List, [], ◌∷◌, length, take, slice_index_or}
+use Rattle.std.specs.Prelude.{◌≡◌, ℕ, zero, suc, ◌+◌, ◌*◌, ◌<◌, ◌≤◌, List, [], length, take, slice_index_or}
 use Rattle.pattern.specs.Ring.{Contents}
 use Rattle.pattern.specs.Step as numbered
 use Rattle.pattern.specs.Step.{NumberedContents, view}

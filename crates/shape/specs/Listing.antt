@@ -1,5 +1,5 @@
 -- Interpolation along a list of vertices.
-use Rattle.std.specs.Prelude.{◌≡◌, ℕ, suc, ◌+◌, ◌<◌, ◌≤◌, Bool, true, false, cond, ◌&&◌, List, [], ◌∷◌, length, pos, Ok, Err, Result, ◌≢◌, nat_le, nat_lt, slice_index, slice_index_or, slice_set, Float}
+use Rattle.std.specs.Prelude.{◌≡◌, ℕ, suc, ◌+◌, ◌<◌, Bool, true, cond, ◌&&◌, List, [], ◌∷◌, length, pos, Ok, Err, Result, ◌≢◌, nat_le, nat_lt, slice_index, slice_index_or, slice_set, Float}
 use Rattle.std.specs.Float.{binary32}
 use Rattle.std.specs.Float.Ieee.{of_int, div}
 use Rattle.point.specs.declared.Vec3A.{Vec3A}

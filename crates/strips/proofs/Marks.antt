@@ -1,5 +1,5 @@
 -- A table in which a mark stands for a break, one place longer.
-use Rattle.std.proofs.Common.{◌≡◌, ℕ, suc, ◌+◌, ◌-◌, ◌<◌, ◌≤◌, Bool, true, false, cond, T, eqb, leb, List, [], ◌∷◌, ◌++◌, length, take, set, refl, ap, ◌∙◌, arith, le→leb, leb→le, length-set}
+use Rattle.std.proofs.Common.{◌≡◌, ℕ, suc, ◌+◌, ◌-◌, ◌<◌, Bool, true, false, cond, T, eqb, leb, List, [], ◌∷◌, ◌++◌, length, take, set, refl, ap, ◌∙◌, arith, le→leb, leb→le, length-set}
 use Rattle.std.proofs.lemmas.List.{take_more_set}
 use Rattle.mesh.specs.Sinks.{Pushed, Broken}
 use Rattle.strips.specs.Marks.{in_front, split_at_marks, mark_sink}

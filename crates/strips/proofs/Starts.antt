@@ -1,5 +1,5 @@
 -- Two tables, one place longer.
-use Rattle.std.proofs.Common.{◌≡◌, ℕ, zero, suc, ◌+◌, ◌-◌, ◌<◌, ◌≤◌, Bool, true, false, ◌&&◌, T, leb, ◌⊎◌, List, [], ◌∷◌, ◌++◌, length, get_or, take, drop, set, sym, refl, ap, ◌∙◌, subst, ap₂, inl, inr, arith, le→leb, leb→le, length-set}
+use Rattle.std.proofs.Common.{◌≡◌, ℕ, zero, suc, ◌+◌, ◌-◌, ◌<◌, ◌≤◌, T, leb, ◌⊎◌, List, [], ◌∷◌, ◌++◌, length, get_or, take, drop, set, sym, refl, ap, ◌∙◌, subst, ap₂, inl, inr, arith, le→leb, leb→le, length-set}
 use Rattle.std.proofs.lemmas.List.{length-take-le, take_more_set, take-append-le, drop-append-le, take-take, get_or-set_same, get_or-set_other}
 use Rattle.mesh.specs.Sinks.{Pushed, Broken}
 use Rattle.strips.specs.Starts.{StartsWithin, cut_at, last_start, start_sink, both, first_of, second_of}

@@ -1,5 +1,5 @@
 -- The strips of a table in which a mark stands for a break.
-use Rattle.std.specs.Prelude.{ℕ, ◌+◌, ◌-◌, ◌≤◌, Bool, cond, T, List, [], ◌∷◌, length, take, ◌==◌, nat_le}
+use Rattle.std.specs.Prelude.{ℕ, ◌+◌, ◌-◌, ◌≤◌, cond, T, List, [], ◌∷◌, length, take, ◌==◌, nat_le}
 use Rattle.std.proofs.Common.{arith, leb→le, le→leb}
 use Rattle.mesh.specs.Sinks.{Sink}
 

@@ -1,5 +1,5 @@
 -- What a push and a break answer, and what they make of a sink, where meaning says what the sink is and held which references it holds.
-use Rattle.std.specs.Prelude.{◌≡◌, ℕ, Bool, cond, List, [], Ok, Err, Result, ◌==◌}
+use Rattle.std.specs.Prelude.{◌≡◌, ℕ, cond, List, [], Ok, Err, Result, ◌==◌}
 use Rattle.std.specs.Borrow.{GName}
 use Rattle.refusal.specs.declared.Refusal.{Refusal}
 use Rattle.refusal.specs.declared.Refusal.TheVariants.{NumberTooLarge, SinkFull}

@@ -1,5 +1,5 @@
 -- What a sound table has: its lists' lengths, and its triangles' corners and edges in range.
-use Rattle.std.proofs.Common.{◌≡◌, ℕ, zero, suc, ◌<◌, ◌≤◌, ◌⊎◌, List, [], ◌∷◌, length, get_or, sym, refl, ap, ◌∙◌, subst, inl, inr, arith}
+use Rattle.std.proofs.Common.{◌≡◌, ℕ, zero, suc, ◌<◌, ◌≤◌, List, [], ◌∷◌, length, get_or, sym, refl, ap, ◌∙◌, subst, inl, inr, arith}
 use lib.ListN.{length-map}
 use Rattle.growing.specs.declared.edge.Edge.{Edge}
 use Rattle.growing.specs.Edges.{edge_in, edge_vertices, len_at}
@@ -9,13 +9,13 @@ use Rattle.growing.specs.Standing.{WithinLimits}
 use Rattle.mesh.proofs.Blank.{blank_stands}
 use Rattle.mesh.proofs.Counted.{vertices-once}
 use Rattle.mesh.proofs.Invariant.{Inv, reached_inv}
-use Rattle.mesh.specs.Numbering.{Numbering, Reached, edge_of}
+use Rattle.mesh.specs.Numbering.{Reached, edge_of}
 use Rattle.rings.specs.declared.contents.Ring.{Ring}
 use Rattle.rings.specs.declared.contents.TriangleContents.{TriangleContents}
 use Rattle.rings.specs.Held.{held, Fits}
 use Rattle.shape.specs.declared.triangle.Triangle.{Triangle}
 use Rattle.shape.specs.Lists.{Each}
-use Rattle.shape.specs.Questions.{Accepted, Below}
+use Rattle.shape.specs.Questions.{Below}
 use Rattle.growing.specs.SteppingAll.{kind_at}
 use Rattle.table.specs.declared.forward.Forward.{Forward}
 use Rattle.table.specs.Forwards.{forwards_from, no_triangle, triangle_at, EdgesBelow}

@@ -1,10 +1,10 @@
 -- A sound table stays sound when it grows.
-use Rattle.std.proofs.Common.{◌≡◌, ℕ, ◌+◌, ◌≤◌, ◌⊎◌, List, length, sym, ap, ◌∙◌, subst, inl, inr}
+use Rattle.std.proofs.Common.{◌≡◌, ℕ, ◌+◌, ◌≤◌, ◌⊎◌, List, length, sym, subst, inl, inr}
 use mathlib.Core.Logic.{∥∥₁_elim, ∥∥₁_map}
 use native.Mathlib.Bridge.{le_prop}
 use Rattle.growing.specs.declared.edge.Edge.{Edge}
 use Rattle.growing.specs.Standing.{numbering, Stands, WithinLimits}
-use Rattle.mesh.specs.Numbering.{Numbering, Reached, subdividing, grown}
+use Rattle.mesh.specs.Numbering.{Reached, subdividing, grown}
 use Rattle.rings.specs.declared.contents.Ring.{Ring}
 use Rattle.rings.specs.declared.contents.TriangleContents.{TriangleContents}
 use Rattle.shape.specs.declared.triangle.Triangle.{Triangle}

@@ -1,5 +1,5 @@
 -- That tables stand can hold in one way only.
-use Rattle.std.proofs.Common.{ℕ, ◌*◌, ◌<◌, ◌≤◌, List, length}
+use Rattle.std.proofs.Common.{ℕ, ◌*◌, List, length}
 use native.Mathlib.Bridge.{le_prop}
 use native.Mathlib.Nat.{ℕ_set}
 use Rattle.growing.specs.declared.edge.Edge.{Edge}

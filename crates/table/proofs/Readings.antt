@@ -1,7 +1,7 @@
 -- Readings triangle after triangle.
-use Rattle.std.proofs.Common.{◌≡◌, ℕ, zero, suc, ◌+◌, ◌<◌, List, [], ◌∷◌, ◌++◌, refl, ap, ◌∙◌}
+use Rattle.std.proofs.Common.{◌≡◌, ℕ, List, [], ◌∷◌, ◌++◌, refl, ap}
 use Rattle.shape.specs.declared.triangle.Triangle.{Triangle}
-use Rattle.table.specs.Forwards.{forward_of, forwards_from, forwards}
+use Rattle.table.specs.Forwards.{forward_of, forwards_from}
 
 -- the edges that triangles use, the latest first
 abbrev pub seen_from : List ℕ → List Triangle → List ℕ

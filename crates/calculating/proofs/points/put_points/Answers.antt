@@ -1,4 +1,4 @@
-use Rattle.std.proofs.Common.{◌≡◌, ◌+◌, ◌<◌, ◌≤◌, length, get_or, drop, set, sym, ap, ◌∙◌, add-one, arith}
+use Rattle.std.proofs.Common.{◌+◌, ◌<◌, ◌≤◌, length, get_or, drop, set, sym, ap, ◌∙◌, add-one, arith}
 use Rattle.points.specs.Calculating.{run, point_writes}
 use Rattle.shape.specs.Listing.{share}
 use Rattle.std.proofs.lemmas.List.{drop_all, drop_more}

@@ -1,4 +1,4 @@
-use Rattle.std.proofs.Common.{◌≡◌, length, take, drop}
+use Rattle.std.proofs.Common.{◌≡◌, drop}
 use lib.Ieee.{Float}
 use Rattle.point.specs.declared.Vec3A.{Vec3A}
 use Rattle.points.specs.Calculating.{Meaning, run, point_writes}

@@ -1,4 +1,4 @@
-use Rattle.std.proofs.Common.{length, ap}
+use Rattle.std.proofs.Common.{length}
 use Rattle.calculating.proofs.Runs.{can_list, listed}
 use Rattle.calculating.proofs.writes.put_along.Goals as goal
 

@@ -1,4 +1,4 @@
-use Rattle.std.proofs.Common.{◌≡◌, suc, ◌+◌, ◌-◌, ◌<◌, ◌≤◌, sym, ap, ◌∙◌, arith}
+use Rattle.std.proofs.Common.{◌≡◌, ◌-◌, sym, ap, ◌∙◌, arith}
 use Rattle.questions.specs.Tests.{first_lack_from, is_used}
 use Rattle.questions.proofs.FirstLack.{lack_more, lack_here}
 use Rattle.questions.proofs.used.first_unused.Goals as goal

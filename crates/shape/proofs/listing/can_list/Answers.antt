@@ -1,4 +1,4 @@
-use Rattle.std.proofs.Common.{◌≡◌, ◌<◌, ◌≤◌, ◌&&◌, leb, length, get_or, drop, sym, ap, ◌∙◌, arith, le-leb}
+use Rattle.std.proofs.Common.{◌<◌, ◌≤◌, ◌&&◌, leb, length, get_or, sym, ap, ◌∙◌, arith, le-leb}
 use Rattle.std.proofs.lemmas.List.{drop_all}
 use Rattle.shape.specs.Listing.{all-below}
 use Rattle.shape.proofs.Booleans.{and_no}

@@ -1,10 +1,10 @@
-use Rattle.std.proofs.Common.{◌≡◌, ℕ, suc, ◌+◌, ◌-◌, ◌<◌, ◌≤◌, true, cond, T, List, [], ◌∷◌, length, get_or, drop, Ok, Err, sym, ap, ◌∙◌, subst, arith, rules}
+use Rattle.std.proofs.Common.{◌≡◌, ℕ, suc, ◌+◌, ◌-◌, ◌<◌, ◌≤◌, cond, T, List, [], ◌∷◌, length, get_or, Ok, Err, sym, ap, ◌∙◌, subst, arith}
 use Rattle.std.proofs.lemmas.List.{drop_all, drop_more}
 use Rattle.refusal.specs.declared.Refusal.TheVariants.{SinkFull}
 use Rattle.mesh.specs.Sinks.{Sink, Writes, nothing, a_number, a_break}
 use Rattle.mesh.specs.Strips.{offset_by}
 use Rattle.strips.specs.Taking.{taken_or_full}
-use Rattle.strips.specs.Writing.{first_too_large, too_large_or}
+use Rattle.strips.specs.Writing.{too_large_or}
 use Rattle.strips.proofs.Refusing.{not_both}
 use Rattle.strips.proofs.Fitting.{none_too_large, push_taken, break_taken}
 use Rattle.strips.proofs.writing.write_strip.Goals as goal

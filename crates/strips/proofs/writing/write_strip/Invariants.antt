@@ -1,4 +1,4 @@
-use Rattle.std.proofs.Common.{◌≡◌, ◌+◌, ◌-◌, T, [], ◌∷◌, length, drop}
+use Rattle.std.proofs.Common.{◌≡◌, ◌-◌, T, [], ◌∷◌, length, drop}
 use Rattle.mesh.specs.Sinks.{Sink, Writes}
 use Rattle.mesh.specs.Strips.{offset_by}
 use Rattle.strips.proofs.writing.write_strip.Given as goal

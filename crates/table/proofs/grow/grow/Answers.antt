@@ -1,6 +1,6 @@
-use Rattle.std.proofs.Common.{◌≡◌, ℕ, ◌+◌, ◌≤◌, List, length, vec_items, vec_len, sym, refl, ap, ◌∙◌, subst, ap₂, rules}
+use Rattle.std.proofs.Common.{◌≡◌, ℕ, ◌+◌, List, length, vec_items, vec_len, sym, refl, ap, ◌∙◌, subst, rules}
 use Rattle.growing.specs.declared.edge.Edge.{Edge}
-use Rattle.growing.specs.Standing.{numbering, Stands, WithinLimits}
+use Rattle.growing.specs.Standing.{numbering, WithinLimits}
 use Rattle.mesh.specs.Numbering.{grown}
 use Rattle.rings.specs.declared.contents.Ring.{Ring}
 use Rattle.rings.specs.declared.contents.TriangleContents.{TriangleContents}

@@ -1,4 +1,4 @@
-use Rattle.std.proofs.Common.{◌≡◌, ◌≤◌, reverse, length, get_or, sym, ap, ◌∙◌, arith}
+use Rattle.std.proofs.Common.{◌≤◌, reverse, length, get_or, sym, ap, ◌∙◌, arith}
 use lib.ListN.{length-reverse}
 use Rattle.std.proofs.lemmas.List.{get_or-reverse, get_or_past}
 use Rattle.rings.specs.Slices.{read}

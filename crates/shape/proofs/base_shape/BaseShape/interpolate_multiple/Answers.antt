@@ -1,4 +1,4 @@
-use Rattle.std.proofs.Common.{◌≡◌, ◌<◌, ◌≤◌, true, cond, leb, length, get_or, drop, Ok, Err, sym, ap, ◌∙◌, arith}
+use Rattle.std.proofs.Common.{◌≡◌, ◌<◌, ◌≤◌, true, cond, leb, length, get_or, Ok, Err, sym, ap, ◌∙◌, arith}
 use lib.Ieee.{Float}
 use Rattle.std.proofs.lemmas.List.{drop_all}
 use Rattle.point.specs.declared.Vec3A.{Vec3A}

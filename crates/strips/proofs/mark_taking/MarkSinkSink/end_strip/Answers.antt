@@ -1,4 +1,4 @@
-use Rattle.std.proofs.Common.{◌≡◌, ℕ, ◌-◌, ◌<◌, ◌≤◌, true, cond, leb, length, Ok, Err, sym, refl, ap, arith, rules, le-leb}
+use Rattle.std.proofs.Common.{◌-◌, ◌<◌, ◌≤◌, cond, length, Ok, Err, sym, refl, ap, arith, rules, le-leb}
 use Rattle.refusal.specs.declared.Refusal.TheVariants.{SinkFull}
 use Rattle.strips.proofs.Marks.{mark_break}
 use Rattle.strips.proofs.Refusing.{not_both}

@@ -1,4 +1,4 @@
-use Rattle.std.proofs.Common.{◌≡◌, ℕ, ◌-◌, ◌<◌, ◌≤◌, true, false, cond, eqb, leb, length, Ok, Err, sym, refl, ap, ◌∙◌, arith, rules, ne_eqb, le-leb}
+use Rattle.std.proofs.Common.{◌≡◌, ◌-◌, ◌<◌, ◌≤◌, true, false, cond, eqb, leb, length, Ok, Err, sym, refl, ap, ◌∙◌, arith, rules, ne_eqb, le-leb}
 use Rattle.refusal.specs.declared.Refusal.TheVariants.{NumberTooLarge, SinkFull}
 use Rattle.strips.specs.Marks.{mark_sink}
 use Rattle.strips.specs.Taking.{taken_or_full}

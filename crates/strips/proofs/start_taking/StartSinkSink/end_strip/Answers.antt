@@ -1,4 +1,4 @@
-use Rattle.std.proofs.Common.{◌≡◌, ℕ, ◌-◌, ◌<◌, ◌≤◌, true, cond, ◌&&◌, leb, length, Ok, Err, sym, refl, ap, ◌∙◌, arith, rules, le-leb}
+use Rattle.std.proofs.Common.{◌-◌, ◌<◌, ◌≤◌, cond, ◌&&◌, leb, length, Ok, Err, sym, refl, ap, ◌∙◌, arith, rules, le-leb}
 use Rattle.refusal.specs.declared.Refusal.TheVariants.{SinkFull}
 use Rattle.strips.proofs.Starts.{start_break, break_within}
 use Rattle.strips.proofs.Refusing.{not_both}

@@ -1,5 +1,4 @@
-use Rattle.std.proofs.Common.{◌≡◌, ℕ, ◌+◌, ◌-◌, ◌<◌, ◌≤◌, true, false, leb, vec_items, vec_len, sym, refl, ap, ◌∙◌, arith}
-use Rattle.refusal.specs.declared.Refusal.{Refusal}
+use Rattle.std.proofs.Common.{◌≡◌, ℕ, ◌+◌, ◌≤◌, true, leb, vec_items, vec_len, sym, ap, ◌∙◌, arith}
 use Rattle.refusal.specs.declared.Refusal.TheVariants.{SubdividedTooOften}
 use Rattle.mesh.specs.Calls.{answered_or, unless, unless_refused}
 use Rattle.mesh.specs.Numbering.{grown}
