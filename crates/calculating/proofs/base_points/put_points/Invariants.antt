@@ -4,7 +4,7 @@ use Rattle.point.specs.declared.Vec3A.{Vec3A}
 use Rattle.points.specs.Calculating.{Meaning, run, point_writes}
 use Rattle.shape.specs.Listing.{share}
 use Rattle.calculating.specs.Rules.{no_point}
-use Rattle.calculating.proofs.points.put_points.Given as goal
+use Rattle.calculating.proofs.base_points.put_points.Given as goal
 
 -- what is left to write gives the same
 abbrev pub invariant-loop-i : goal.invariant-loop-i

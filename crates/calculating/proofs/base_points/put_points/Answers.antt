@@ -3,7 +3,7 @@ use Rattle.points.specs.Calculating.{run, point_writes}
 use Rattle.shape.specs.Listing.{share}
 use Rattle.std.proofs.lemmas.List.{drop_all, drop_more}
 use Rattle.calculating.specs.Rules.{no_point}
-use Rattle.calculating.proofs.points.put_points.Goals as goal
+use Rattle.calculating.proofs.base_points.put_points.Goals as goal
 
 pub loop-i-preserved : goal.loop-i-preserved
 loop-i-preserved c M =
