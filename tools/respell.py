@@ -3,7 +3,8 @@
 
 usage: python3 tools/respell.py [--list]      at the top of the repository; --list prints the table and writes nothing
 
-A dash stays where it joins the names of two definitions, as in weigh-map, or a name and an operator, as in lengths-++; else it becomes an underscore.
+A dash stays where a law joins a definition to a function of std's that it is taken with, as in weigh-map, or to an operator, as in lengths-++; else it
+becomes an underscore.
 Names come from the declarations of specs/ and of the lemma files of proofs/. They turn in .antt files, in the clauses, ghost members and 'ghost use' lines of
 .rt files, and in the code spans of the pages. Names that Rattle makes of the source (goals, steps, answers) stay. It runs once: what is written after it has
 the new spelling already.
@@ -20,7 +21,7 @@ COMMENT = re.compile(r"(?m)(?<![^\s(){}.;,@\"«»])--(?![^\s(){}.;,@\"«»])[^\n
 MADE = re.compile(r"/(Answers|Invariants|Proof|Choices)\.antt$")
 CLAUSE = re.compile(r"\b(?:requires\*?|ensures\*?|ghost)\b[^{;]*\{[^{}]*(?:\{[^{}]*\}[^{}]*)*\}|ghost use [^;]*;")
 LABEL = re.compile(r"^(returns|loop|if|in|decreases|invariant|bounds|overflow|invariant_of|break|else|then)(-|$)|-requires(-|$)|-returns(-|$)")
-# Words of std's that a dash may join to a definition's name.
+# Functions of std's that a dash may join to a definition's name.
 STD = set("append cons snoc map reverse length drop take set range sum replicate filter".split())
 # Names that would meet another in some file, or read badly: their spelling by hand.
 BY_HAND = {
@@ -35,6 +36,11 @@ BY_HAND = {
     "first-lack": "first_lack_lem",
     "major-breaks": "major_breaks_lem",
     "major-numbers": "major_numbers_lem",
+    "all-breaks": "all_breaks_lem",
+    "all-numbers": "all_numbers_lem",
+    "all-places": "all_places_lem",
+    "blank-at": "blank_at_lem",
+    "closing-sides": "closing_sides_lem",
     "Faces-counted": "FacesAreCounted",
     "Lines-counted": "LinesAreCounted",
     "Numbers-below": "NumbersAreBelow",
@@ -45,8 +51,11 @@ BY_HAND = {
 }
 # A name that is brought in by 'as', and declared nowhere.
 BROUGHT = {"floatShare": "float_share"}
-# A lemma that has its function's new name already, in one file.
-IN_FILE = {"crates/questions/proofs/OneWay.antt": {"same_way": "same_way_lem"}}
+# Lemmas that would meet their function's name in one file alone.
+IN_FILE = {
+    "crates/questions/proofs/OneWay.antt": {"same_way": "same_way_lem"},
+    "crates/mesh/proofs/Amounts.antt": {"all-faces": "all_faces_lem"},
+}
 
 
 def files():
@@ -54,13 +63,13 @@ def files():
 
 
 def declared():
-    """Each declared name with whether it is a type."""
+    """Each declared name with the files that declare it."""
     found = collections.defaultdict(set)
     for path in files():
         with open(path) as f:
             text = COMMENT.sub("", f.read())
         for m in DECLARED.finditer(text):
-            if MADE.search(path) and LABEL.search(m[2]):
+            if MADE.search(path) and (LABEL.search(m[2]) or re.match(r" *(goal|need)\.", text[m.end() :])):
                 continue
             found[m[2]].add(path)
     return found
@@ -81,7 +90,7 @@ def spelled(name, definitions):
     for at in range(1, len(parts)):
         left, right = "-".join(name.split("-")[:at]), name.split("-")[at]
         operator = not re.match(r"\w", right)
-        joins = left in definitions and (right in definitions or right in STD)
+        joins = left in definitions and right in STD
         out += ("-" if operator or joins else "_") + parts[at]
     return out
 
@@ -92,10 +101,10 @@ def table():
     return {**{n: spelled(n, definitions) for n in found if spelled(n, definitions) != n}, **BROUGHT}
 
 
-def turn(text, names):
+def turn(text, names, made):
     def word(m):
-        behind = text[: m.start()]
-        if re.search(r"(?<![\w'-])(c|w|goal|given)\.$", behind):
+        behind = text[max(0, m.start() - 8) : m.start()]
+        if made and re.search(r"(?<![\w'-])(c|w|goal|given)\.$", behind):
             return m[0]
         return names.get(m[0], m[0])
 
@@ -104,10 +113,10 @@ def turn(text, names):
 
 def turned(path, text, names):
     if path.endswith(".antt"):
-        return turn(text, names)
+        return turn(text, names, bool(MADE.search(path)))
     if path.endswith(".rt"):
-        return CLAUSE.sub(lambda m: turn(m[0], names), text)
-    return re.sub(r"`[^`\n]+`", lambda m: "`" + turn(m[0][1:-1], names) + "`", text)
+        return CLAUSE.sub(lambda m: turn(m[0], names, False), text)
+    return re.sub(r"`[^`\n]+`", lambda m: "`" + turn(m[0][1:-1], names, False) + "`", text)
 
 
 def clashes(names):

@@ -19,29 +19,29 @@ use Rattle.rings.specs.Held.{held, held_view, Fits, ring_at}
 use Rattle.rings.specs.Slices.{read, Forth}
 use Rattle.rings.specs.Views.{Shows, Whole, inside}
 use Rattle.rings.proofs.InRing.{from}
-use Rattle.rings.proofs.Shown.{slice_at, held-shown, read-shown, long-shown, whole_shown}
+use Rattle.rings.proofs.Shown.{slice_at, held_shown, read_shown, long_shown, whole_shown}
 use Rattle.shape.specs.Listing.{share, placed}
 use Rattle.shape.specs.Lists.{Each}
 use Rattle.calculating.specs.Rules.{no_point, wrote}
 use Rattle.calculating.specs.ViewWrites.{Below, slice_writes, edges_writes, inside_writes}
-use Rattle.calculating.proofs.Inside.{contents-agree}
+use Rattle.calculating.proofs.Inside.{contents_agree}
 use Rattle.calculating.proofs.Runs.{wrote-++, chained}
 
 module _ (between : Vec3A → Vec3A → Float → Vec3A) (half : Vec3A → Vec3A → Vec3A) where
-  along-agree :
+  along_agree :
       (m : ℕ) (xs ys : ℕ → ℕ) (p q : ℕ) (f : List Vec3A) → ((i : ℕ) → i < m → xs i ≡ ys i)
       → wrote between half (along m xs p q ∷ []) f ≡ wrote between half (along m ys p q ∷ []) f
-  along-agree m xs ys p q f h =
+  along_agree m xs ys p q f h =
       ap (λ l. placed (λ i. between (at no_point f p) (at no_point f q) (share i m)) 0 l f) (up_cong 0 m (λ i. xs i ∷ []) (λ i. ys i ∷ []) (λ i a l. ap (λ x. x ∷ []) (h i (omega arith))))
 
   -- an edge that is read forward
-  pub edge-writes :
+  pub edge_writes :
       (e : Slice) (p p' q q' m : ℕ) (xs : ℕ → ℕ) (f : List Vec3A) → Forth e → p ≡ p' → q ≡ q' → length (read e) ≡ m
       → ((i : ℕ) → i < m → get_or (read e) i 0 ≡ xs i) → wrote between half (slice_writes e p q) f ≡ wrote between half (along m xs p' q' ∷ []) f
-  edge-writes (Forward s) p p' q q' m xs f t u v l h =
-      ap (λ k. wrote between half (along k (λ i. get_or s.now i 0) p q ∷ []) f) l ∙ along-agree m (λ i. get_or s.now i 0) xs p q f h
+  edge_writes (Forward s) p p' q q' m xs f t u v l h =
+      ap (λ k. wrote between half (along k (λ i. get_or s.now i 0) p q ∷ []) f) l ∙ along_agree m (λ i. get_or s.now i 0) xs p q f h
       ∙ ap₂ (λ x y. wrote between half (along m xs x y ∷ []) f) u v
-  edge-writes (Backward s) p p' q q' m xs f t u v l h = absurd t
+  edge_writes (Backward s) p p' q q' m xs f t u v l h = absurd t
 
   module _ (rs : List Ring) (d i : ℕ) (w : RingView) (s : Shows rs d i w) (h : Fits rs d (ring_at rs i).len (ring_at rs i).inner) where
     abbrev L : ℕ
@@ -55,8 +55,8 @@ module _ (between : Vec3A → Vec3A → Float → Vec3A) (half : Vec3A → Vec3A
         along L (side Ab) (ring_at rs i).a (ring_at rs i).b ∷ along L (side Bc) (ring_at rs i).b (ring_at rs i).c
         ∷ along L (side Ca) (ring_at rs i).c (ring_at rs i).a ∷ []
 
-    sides-same : (f : List Vec3A) → wrote between half (edges_writes w) f ≡ wrote between half sides f
-    sides-same f =
+    sides_same : (f : List Vec3A) → wrote between half (edges_writes w) f ≡ wrote between half sides f
+    sides_same f =
         let p = slice_writes w.ab w.a w.b in
         let q = slice_writes w.bc w.b w.c in
         let r = slice_writes w.ca w.c w.a in
@@ -64,19 +64,19 @@ module _ (between : Vec3A → Vec3A → Float → Vec3A) (half : Vec3A → Vec3A
         let k = wrote between half (along L (side Bc) (ring_at rs i).b (ring_at rs i).c ∷ []) g in
         wrote-++ between half p (q ++ r) f ∙ wrote-++ between half q r (wrote between half p f)
         ∙ ap (λ x. wrote between half r (wrote between half q x))
-        (edge-writes w.ab w.a (ring_at rs i).a w.b (ring_at rs i).b L (side Ab) f s.ab-forth s.a-is s.b-is s.ab-long (read-shown rs d i w s Ab))
+        (edge_writes w.ab w.a (ring_at rs i).a w.b (ring_at rs i).b L (side Ab) f s.ab_forth s.a_is s.b_is s.ab_long (read_shown rs d i w s Ab))
         ∙ ap (wrote between half r)
-        (edge-writes w.bc w.b (ring_at rs i).b w.c (ring_at rs i).c L (side Bc) g s.bc-forth s.b-is s.c-is s.bc-long (read-shown rs d i w s Bc))
-        ∙ edge-writes w.ca w.c (ring_at rs i).c w.a (ring_at rs i).a L (side Ca) k s.ca-forth s.c-is s.a-is s.ca-long (read-shown rs d i w s Ca)
+        (edge_writes w.bc w.b (ring_at rs i).b w.c (ring_at rs i).c L (side Bc) g s.bc_forth s.b_is s.c_is s.bc_long (read_shown rs d i w s Bc))
+        ∙ edge_writes w.ca w.c (ring_at rs i).c w.a (ring_at rs i).a L (side Ca) k s.ca_forth s.c_is s.a_is s.ca_long (read_shown rs d i w s Ca)
 
-    inside-same : inside_writes w ≡ contents_writes L (side Ab) (side Bc) (side Ca) (held_view rs d (ring_at rs i).inner)
-    inside-same =
+    inside_same : inside_writes w ≡ contents_writes L (side Ab) (side Bc) (side Ca) (held_view rs d (ring_at rs i).inner)
+    inside_same =
         let ab : ℕ → ℕ = λ j. get_or (read w.ab) j 0 in
         let bc : ℕ → ℕ = λ j. get_or (read w.bc) j 0 in
         let ca : ℕ → ℕ = λ j. get_or (read w.ca) j 0 in
-        ap (λ m. contents_writes m ab bc ca (inside w)) s.ab-long
-        ∙ ap (λ t. contents_writes L ab bc ca (view t)) (held-shown rs d i w s)
-        ∙ contents-agree ab bc ca (side Ab) (side Bc) (side Ca) rs d L (ring_at rs i).inner h (read-shown rs d i w s Ab) (read-shown rs d i w s Bc) (read-shown rs d i w s Ca)
+        ap (λ m. contents_writes m ab bc ca (inside w)) s.ab_long
+        ∙ ap (λ t. contents_writes L ab bc ca (view t)) (held_shown rs d i w s)
+        ∙ contents_agree ab bc ca (side Ab) (side Bc) (side Ca) rs d L (ring_at rs i).inner h (read_shown rs d i w s Ab) (read_shown rs d i w s Bc) (read_shown rs d i w s Ca)
 
     -- the writes of a view of ring i are those of the ring
     pub ring_writes :
@@ -84,23 +84,23 @@ module _ (between : Vec3A → Vec3A → Float → Vec3A) (half : Vec3A → Vec3A
         → wrote between half (edges_writes w ++ inside_writes w) f
         ≡ wrote between half (sides ++ contents_writes L (side Ab) (side Bc) (side Ca) (held_view rs d (ring_at rs i).inner)) f
     ring_writes f =
-        wrote-++ between half (edges_writes w) (inside_writes w) f ∙ ap (wrote between half (inside_writes w)) (sides-same f)
-        ∙ ap (λ ws. wrote between half ws (wrote between half sides f)) inside-same
+        wrote-++ between half (edges_writes w) (inside_writes w) f ∙ ap (wrote between half (inside_writes w)) (sides_same f)
+        ∙ ap (λ ws. wrote between half ws (wrote between half sides f)) inside_same
 
   -- so the writes of contents that name ring i are those of its corners, and then of the view
-  pub more-writes :
+  pub more_writes :
       (rs : List Ring) (d i m : ℕ) (ab bc ca : ℕ → ℕ) (w : RingView) → 0 < d → Shows rs (d - 1) i w → Fits rs d m (kind.More i)
       → (f g h k : List Vec3A) → g ≡ wrote between half (tip_writes m ab bc ca w.a w.b w.c) f → h ≡ wrote between half (edges_writes w) g
       → k ≡ wrote between half (inside_writes w) h → k ≡ wrote between half (contents_writes m ab bc ca (held_view rs d (kind.More i))) f
-  more-writes rs zero i m ab bc ca w lt s t f g h k p q r = absurd (omega arith)
-  more-writes rs (suc d) i m ab bc ca w lt s t f g h k p q r =
+  more_writes rs zero i m ab bc ca w lt s t f g h k p q r = absurd (omega arith)
+  more_writes rs (suc d) i m ab bc ca w lt s t f g h k p q r =
       let e : suc d - 1 ≡ d = omega arith in
       let S : Shows rs d i w = subst (λ (x : ℕ). Shows rs x i w) e s in
       let tips = tip_writes m ab bc ca (ring_at rs i).a (ring_at rs i).b (ring_at rs i).c in
       let p' : g ≡ wrote between half tips f
-      = p ∙ ap (λ x. wrote between half (tip_writes m ab bc ca x w.b w.c) f) S.a-is
-      ∙ ap (λ x. wrote between half (tip_writes m ab bc ca (ring_at rs i).a x w.c) f) S.b-is
-      ∙ ap (λ x. wrote between half (tip_writes m ab bc ca (ring_at rs i).a (ring_at rs i).b x) f) S.c-is in
+      = p ∙ ap (λ x. wrote between half (tip_writes m ab bc ca x w.b w.c) f) S.a_is
+      ∙ ap (λ x. wrote between half (tip_writes m ab bc ca (ring_at rs i).a x w.c) f) S.b_is
+      ∙ ap (λ x. wrote between half (tip_writes m ab bc ca (ring_at rs i).a (ring_at rs i).b x) f) S.c_is in
       chained between half (edges_writes w) (inside_writes w) g h k q r ∙ ring_writes rs d i w S t.4 g
       ∙ ap (wrote between half (sides rs d i w S t.4 ++ contents_writes (L rs d i w S t.4) (side rs d i w S t.4 Ab) (side rs d i w S t.4 Bc) (side rs d i w S t.4 Ca) (held_view rs d (ring_at rs i).inner))) p'
 
@@ -118,20 +118,20 @@ each_right : (n : ℕ) (l m : List ℕ) → Each (λ x. x < n) (l ++ m) → Each
 each_right n [] m e = e
 each_right n (x ∷ l) m e = each_right n l m e.1
 
-short-at : (l : List ℕ) (n m i : ℕ) → 0 < n → length l ≡ m → (i < m → get_or l i 0 < n) → get_or l i 0 < n
-short-at l n m i z e h =
+short_at : (l : List ℕ) (n m i : ℕ) → 0 < n → length l ≡ m → (i < m → get_or l i 0 < n) → get_or l i 0 < n
+short_at l n m i z e h =
     elim (cases_lt i m) [
       | inl lt ↦ h lt
       | inr ge ↦ let q : length l ≤ i = omega arith in let d : get_or l i 0 ≡ 0 = get_or_past l i 0 q in subst (λ x. x < n) (sym d) z
     ]
 
-side-below :
+side_below :
     (rs : List Ring) (d i n : ℕ) (w : RingView) → Shows rs d i w → 0 < n → Each (λ x. x < n) (take (3 * (ring_at rs i).len) (ring_at rs i).sides)
     → (s : Side) (j : ℕ) → get_or (read (slice_at s w)) j 0 < n
-side-below rs d i n w h z e s j =
+side_below rs d i n w h z e s j =
     let L : ℕ = (ring_at rs i).len in
-    short-at (read (slice_at s w)) n L j z (long-shown rs d i w h s)
-    (λ lt. subst (λ x. x < n) (sym (read-shown rs d i w h s j lt)) (each_at n (take (3 * L) (ring_at rs i).sides) z e (from L s j)))
+    short_at (read (slice_at s w)) n L j z (long_shown rs d i w h s)
+    (λ lt. subst (λ x. x < n) (sym (read_shown rs d i w h s j lt)) (each_at n (take (3 * L) (ring_at rs i).sides) z e (from L s j)))
 
 pub ring_below :
     (rs : List Ring) (d i n : ℕ) (w : RingView) → 0 < d → Shows rs (d - 1) i w → 0 < n → Each (λ x. x < n) (vertices (held rs d (kind.More i)))
@@ -146,13 +146,13 @@ ring_below rs (suc d) i n w lt h z e =
     let here : Each (λ x. x < n) sides = each_left n sides (vertices (held rs d g.inner)) e.1.1.1 in
     record {
       some = z;
-      on_a = subst (λ x. x < n) (sym S.a-is) e.0;
-      on_b = subst (λ x. x < n) (sym S.b-is) e.1.0;
-      on_c = subst (λ x. x < n) (sym S.c-is) e.1.1.0;
-      on_ab = side-below rs d i n w S z here Ab;
-      on_bc = side-below rs d i n w S z here Bc;
-      on_ca = side-below rs d i n w S z here Ca;
-      within = subst (λ (t : NumberedContents). Each (λ x. x < n) (vertices t)) (sym (held-shown rs d i w S)) within;
+      on_a = subst (λ x. x < n) (sym S.a_is) e.0;
+      on_b = subst (λ x. x < n) (sym S.b_is) e.1.0;
+      on_c = subst (λ x. x < n) (sym S.c_is) e.1.1.0;
+      on_ab = side_below rs d i n w S z here Ab;
+      on_bc = side_below rs d i n w S z here Bc;
+      on_ca = side_below rs d i n w S z here Ca;
+      within = subst (λ (t : NumberedContents). Each (λ x. x < n) (vertices t)) (sym (held_shown rs d i w S)) within;
     }
 
 inward : (rs : List Ring) (d m i : ℕ) → Fits rs d m (kind.More i) → Fits rs (d - 1) (ring_at rs i).len (ring_at rs i).inner

@@ -8,21 +8,21 @@ use Rattle.rings.specs.declared.contents.TriangleContents.TheVariants as kind
 use Rattle.rings.specs.Held.{held_view, Fits, ring_at}
 
 module _ (ab bc ca pq qr rp : ℕ → ℕ) where
-  pub contents-agree :
+  pub contents_agree :
       (rs : List Ring) (d m : ℕ) (t : TriangleContents) → Fits rs d m t → ((i : ℕ) → i < m → ab i ≡ pq i) → ((i : ℕ) → i < m → bc i ≡ qr i)
       → ((i : ℕ) → i < m → ca i ≡ rp i)
       → contents_writes {Point = Vec3A} m ab bc ca (held_view rs d t) ≡ contents_writes {Point = Vec3A} m pq qr rp (held_view rs d t)
-  contents-agree rs d m kind.None h f g k = refl
-  contents-agree rs d m (kind.One x) h f g k =
+  contents_agree rs d m kind.None h f g k = refl
+  contents_agree rs d m (kind.One x) h f g k =
       let u = f 0 (omega arith) in
       let v = g 1 (omega arith) in
       cc
-  contents-agree rs d m (kind.Three a b c) h f g k =
+  contents_agree rs d m (kind.Three a b c) h f g k =
       let u = f 1 (omega arith) in
       let v = g 1 (omega arith) in
       let w = k 1 (omega arith) in
       cc
-  contents-agree rs d m (kind.Six a b c x y z) h f g k =
+  contents_agree rs d m (kind.Six a b c x y z) h f g k =
       let u = f 1 (omega arith) in
       let v = g 1 (omega arith) in
       let w = k 1 (omega arith) in
@@ -30,8 +30,8 @@ module _ (ab bc ca pq qr rp : ℕ → ℕ) where
       let v' = g (m - 2) (omega arith) in
       let w' = k (m - 2) (omega arith) in
       cc
-  contents-agree rs zero m (kind.More i) h f g k = absurd h
-  contents-agree rs (suc d) m (kind.More i) h f g k =
+  contents_agree rs zero m (kind.More i) h f g k = absurd h
+  contents_agree rs (suc d) m (kind.More i) h f g k =
       let e : m ≡ 3 + (ring_at rs i).len = h.1 in
       let u = f 1 (omega arith) in
       let v = g 1 (omega arith) in

@@ -11,7 +11,7 @@ use Rattle.rings.specs.Slices.{read, Reads}
 use Rattle.rings.specs.Views.{ShowsPatch, inside}
 use Rattle.rings.proofs.Patches.{long_patch, read_patch}
 use Rattle.calculating.specs.ViewWrites.{slice_writes, inside_writes, view_writes}
-use Rattle.calculating.proofs.Inside.{contents-agree}
+use Rattle.calculating.proofs.Inside.{contents_agree}
 
 -- an edge, which is written where it is read forward
 slice_writes_lem :
@@ -34,10 +34,10 @@ patch_writes_lem n E t w s =
     let corner : ℕ → ℕ = t.tri.corner in
     let i : inside_writes w ≡ contents_writes n (reading n E t 0) (reading n E t 1) (reading n E t 2) (view t.inner)
     = ap (λ m. contents_writes m ab bc ca (inside w)) (long_patch n E t w s Ab)
-    ∙ contents-agree ab bc ca (reading n E t 0) (reading n E t 1) (reading n E t 2) w.rings.now w.depth n w.inner s.goes
+    ∙ contents_agree ab bc ca (reading n E t 0) (reading n E t 1) (reading n E t 2) w.rings.now w.depth n w.inner s.goes
     (read_patch n E t w s Ab) (read_patch n E t w s Bc) (read_patch n E t w s Ca)
-    ∙ ap (λ g. contents_writes n (reading n E t 0) (reading n E t 1) (reading n E t 2) (view g)) s.inner-is in
+    ∙ ap (λ g. contents_writes n (reading n E t 0) (reading n E t 1) (reading n E t 2) (view g)) s.inner_is in
     append_assoc p (q ++ r) (inside_writes w) ∙ ap (λ l. p ++ l) (append_assoc q r (inside_writes w))
-    ∙ ap₂ (λ x y. x ++ y) (slice_writes_lem (edge 0) n (t.forth 0) w.ab w.a (corner 0) w.b (corner 1) (s.long 0 (omega arith)) s.a-is s.b-is s.on_ab)
-    (ap₂ (λ x y. x ++ y) (slice_writes_lem (edge 1) n (t.forth 1) w.bc w.b (corner 1) w.c (corner 2) (s.long 1 (omega arith)) s.b-is s.c-is s.on_bc)
-    (ap₂ (λ x y. x ++ y) (slice_writes_lem (edge 2) n (t.forth 2) w.ca w.c (corner 2) w.a (corner 0) (s.long 2 (omega arith)) s.c-is s.a-is s.on_ca) i))
+    ∙ ap₂ (λ x y. x ++ y) (slice_writes_lem (edge 0) n (t.forth 0) w.ab w.a (corner 0) w.b (corner 1) (s.long 0 (omega arith)) s.a_is s.b_is s.on_ab)
+    (ap₂ (λ x y. x ++ y) (slice_writes_lem (edge 1) n (t.forth 1) w.bc w.b (corner 1) w.c (corner 2) (s.long 1 (omega arith)) s.b_is s.c_is s.on_bc)
+    (ap₂ (λ x y. x ++ y) (slice_writes_lem (edge 2) n (t.forth 2) w.ca w.c (corner 2) w.a (corner 0) (s.long 2 (omega arith)) s.c_is s.a_is s.on_ca) i))

@@ -3,9 +3,9 @@ use Rattle.std.proofs.Common.{◌≡◌, ℕ, suc, ◌<◌, ◌≤◌, true, con
 use lib.Ieee.{Float}
 use Rattle.point.specs.declared.Vec3A.{Vec3A}
 use Rattle.points.specs.Calculating.{Write, put, middle, along, at}
-use Rattle.points.proofs.Listed.{along-stands}
+use Rattle.points.proofs.Listed.{along_stands}
 use Rattle.points.proofs.Writes.{run_long}
-use Rattle.shape.specs.Listing.{share, placed, all-below, listable}
+use Rattle.shape.specs.Listing.{share, placed, all_below, listable}
 use Rattle.shape.specs.Listing as listing
 use Rattle.calculating.specs.Rules.{no_point, rules, wrote}
 
@@ -16,8 +16,8 @@ module _ (between : Vec3A → Vec3A → Float → Vec3A) (half : Vec3A → Vec3A
   wrote-++ (middle x p q ∷ ws) vs f = wrote-++ ws vs (wrote between half (middle x p q ∷ []) f)
   wrote-++ (along m xs p q ∷ ws) vs f = wrote-++ ws vs (wrote between half (along m xs p q ∷ []) f)
 
-  pub wrote-long : (ws : List (Write Vec3A)) (f : List Vec3A) → length (wrote between half ws f) ≡ length f
-  wrote-long ws f = run_long share no_point (rules between half) ws f
+  pub wrote_long : (ws : List (Write Vec3A)) (f : List Vec3A) → length (wrote between half ws f) ≡ length f
+  wrote_long ws f = run_long share no_point (rules between half) ws f
 
   -- first ws, then vs
   pub chained :
@@ -32,9 +32,9 @@ module _ (between : Vec3A → Vec3A → Float → Vec3A) (half : Vec3A → Vec3A
       → new ≡ wrote between half (along (length l) (λ i. get_or l i 0) p q ∷ []) f
   listed l p q f new t e =
       e ∙ ap (λ b. cond b (listing.along (between (at no_point f p) (at no_point f q)) l f) f) t
-      ∙ sym (along-stands Vec3A Float share no_point (rules between half) l p q f)
+      ∙ sym (along_stands Vec3A Float share no_point (rules between half) l p q f)
 
-all_yes : (l : List ℕ) (n : ℕ) → ((i : ℕ) → get_or l i 0 < n) → all-below l n ≡ true
+all_yes : (l : List ℕ) (n : ℕ) → ((i : ℕ) → get_or l i 0 < n) → all_below l n ≡ true
 all_yes [] n h = refl
 all_yes (x ∷ l) n h = let z : ltb x n ≡ true = let y : x < n = h 0 in grind arith in rw (z, all_yes l n (λ i. h (suc i)))
 

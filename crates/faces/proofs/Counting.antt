@@ -21,5 +21,5 @@ view-length m w h =
     ∙ length-map (spot_faces m) (map_face (vertex_of w.a w.b w.c r.ab r.bc r.ca (inside w))) ∙ s_faces m h.few
 
 -- those of its own ring, and those of its contents
-pub view-lengths : (m : ℕ) (w : RingView) → Whole m w → length (own_faces w) + length (inner_faces w) ≡ triangle_face_count m
-view-lengths m w h = sym (length-append (own_faces w) (inner_faces w)) ∙ view-length m w h
+pub view_lengths : (m : ℕ) (w : RingView) → Whole m w → length (own_faces w) + length (inner_faces w) ≡ triangle_face_count m
+view_lengths m w h = sym (length-append (own_faces w) (inner_faces w)) ∙ view-length m w h

@@ -8,9 +8,9 @@ use Rattle.rings.specs.declared.ring_view.RingView.{RingView}
 use Rattle.rings.specs.Held.{Fits, held_view, ring_at}
 use Rattle.rings.specs.Slices.{read}
 use Rattle.rings.specs.Views.{ring_of_view, table_ring, Whole, Shows}
-use Rattle.rings.proofs.Shown.{shown-inside, shown-agrees, whole_shown}
+use Rattle.rings.proofs.Shown.{shown_inside, shown_agrees, whole_shown}
 use Rattle.faces.specs.Viewed.{own_faces, inner_faces}
-use Rattle.faces.proofs.Agreeing.{faces-agree}
+use Rattle.faces.proofs.Agreeing.{faces_agree}
 
 -- the contents of w are the ring that v shows
 pub record Within (w v : RingView) : Type 0 where
@@ -36,8 +36,8 @@ within w v m i is fits shows =
     let faces : inner_faces w ≡ own_faces v ++ inner_faces v =
     ap₂ (λ n t. contents_faces (held_view rs n t)) deep is
     ∙ sym (ap₂ (λ x y. x ++ y)
-    (ap (λ n. ring_faces n (ring_of_view v)) shows.ab-long ∙ faces-agree g.len (ring_of_view v) (table_ring rs d i) (shown-agrees rs d i v shows))
-    (ap contents_faces (shown-inside rs d i v shows))) in
+    (ap (λ n. ring_faces n (ring_of_view v)) shows.ab_long ∙ faces_agree g.len (ring_of_view v) (table_ring rs d i) (shown_agrees rs d i v shows))
+    (ap contents_faces (shown_inside rs d i v shows))) in
     record {
       whole = whole_shown rs d i v shows f.3 f.4;
       less = omega (arith, shows.depth_is);

@@ -14,18 +14,18 @@ pasted out at xs = paste_all out at xs (length xs) refl
 written-length : (out : List ℕ) (at : ℕ) (xs : List ℕ) → at + length xs ≤ length out → length (written out at xs) ≡ length out
 written-length out at xs h = sym (ap length (pasted out at xs)) ∙ length-paste out at xs (length xs) h (omega arith)
 
-written-more :
+written_more :
     (out : List ℕ) (at : ℕ) (xs ys : List ℕ) → at + length xs ≤ length out
     → written (written out at xs) (at + length xs) ys ≡ written out at (xs ++ ys)
-written-more out at xs ys h =
+written_more out at xs ys h =
     sym (pasted (written out at xs) (at + length xs) ys) ∙ ap (λ o. paste o (at + length xs) ys (length ys)) (sym (pasted out at xs))
     ∙ paste-paste out at xs ys (length xs) (length ys) refl refl (omega arith)
     ∙ ap (paste out at (xs ++ ys)) (sym (length-append xs ys)) ∙ pasted out at (xs ++ ys)
 
-written-three :
+written_three :
     (out : List ℕ) (at a b c : ℕ) → at + 3 ≤ length out
     → set (set (set out at a) (at + 1) b) (at + 2) c ≡ written out at (a ∷ b ∷ c ∷ [])
-written-three out at a b c h =
+written_three out at a b c h =
     let xs : List ℕ = a ∷ b ∷ c ∷ [] in
     ap₂ (λ o i. set (set (set o i a) (at + 1) b) (at + 2) c) (paste_none out at xs) (sym (add-zero at))
     ∙ ap (λ o. set (set o (at + 1) b) (at + 2) c) (paste_more out at xs 0 0 (omega arith) (omega arith))
@@ -42,7 +42,7 @@ room_for {fs = fs} v = omega (arith, three_each fs, v.next_is, v.fits)
 pub put :
     (out : List ℕ) (at : ℕ) (f : Face ℕ) → at + 3 ≤ length out
     → Wrote out at (f ∷ []) (set (set (set out at f.0) (at + 1) f.1) (at + 2) f.2) (at + 3)
-put out at f h = record { next_is = refl; fits = h; holds = written-three out at f.0 f.1 f.2 h }
+put out at f h = record { next_is = refl; fits = h; holds = written_three out at f.0 f.1 f.2 h }
 
 -- no faces
 pub still : (out : List ℕ) (at : ℕ) → at ≤ length out → Wrote out at [] out at
@@ -63,7 +63,7 @@ glue {old = old} {mid = mid} {new = new} {at = at} {p = p} {q = q} {fs = fs} {gs
       next_is = omega (arith, v.next_is, w.next_is);
       fits = omega (arith, w.fits);
       holds =
-          w.holds ∙ ap₂ (λ o n. written o n (face_numbers gs)) v.holds e ∙ written-more old at (face_numbers fs) (face_numbers gs) (room_for v)
+          w.holds ∙ ap₂ (λ o n. written o n (face_numbers gs)) v.holds e ∙ written_more old at (face_numbers fs) (face_numbers gs) (room_for v)
           ∙ ap (written old at) (sym (numbers-append fs gs));
     }
 

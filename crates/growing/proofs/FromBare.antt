@@ -3,7 +3,7 @@ use Rattle.std.proofs.Common.{◌≡◌, ℕ, ◌*◌, ◌≤◌, List, [], leng
 use Rattle.std.proofs.lemmas.List.{get_or-replicate, length-replicate}
 use Rattle.pattern.specs.Step as numbered
 use Rattle.mesh.specs.Numbering.{grown, made}
-use Rattle.mesh.proofs.Invariant.{bare, made-is}
+use Rattle.mesh.proofs.Invariant.{bare, made_is}
 use Rattle.rings.specs.declared.contents.Ring.{Ring}
 use Rattle.rings.specs.declared.contents.TriangleContents.{TriangleContents}
 use Rattle.rings.specs.declared.contents.TriangleContents.TheVariants as kind
@@ -43,4 +43,4 @@ module _ (es : List Edge) (ts : List TriangleContents) (rs : List Ring) (b : Bar
 
   -- what subdividing bare tables by n gives is the numbering made at n
   pub made_from_bare : (P n : ℕ) → grown n (numbering 0 P es ts rs) ≡ made P (length es) (length ts) n
-  made_from_bare P n = ap (grown n) (bare_numbering P) ∙ made-is P (length es) (length ts) n
+  made_from_bare P n = ap (grown n) (bare_numbering P) ∙ made_is P (length es) (length ts) n

@@ -22,7 +22,7 @@ pub record SteppedUpTo (rs : List Ring) (m k : ℕ) (ts : List TriangleContents)
   pub as_many : length ts' ≡ length ts
   pub done : (j : ℕ) → j < i → Placed rs' (3 * j) 3 (m + k) (kind_at ts' j)
   pub ahead : (j : ℕ) → i ≤ j → j < length ts → Placed rs' (3 * j) 3 m (kind_at ts' j)
-  pub held-are : all_held rs' (take i ts') ++ all_stepped h' k (all_held rs' (drop i ts')) ≡ all_stepped h k (all_held rs ts)
+  pub held_are : all_held rs' (take i ts') ++ all_stepped h' k (all_held rs' (drop i ts')) ≡ all_stepped h k (all_held rs ts)
   pub next_is : after_all h' k (all_held rs' (drop i ts')) ≡ after_all h k (all_held rs ts)
 
 all_same :
@@ -48,16 +48,16 @@ module _
       let near = a.near in
       record { placed = a.ahead i (omega arith) p; some = r.some; few = few; deep = omega arith; free = omega arith }
 
-  pub stepped-all : i ≡ length ts → MovesAll rs m k ts h rs1 ts1 h1
-  stepped-all e =
+  pub stepped_all : i ≡ length ts → MovesAll rs m k ts h rs1 ts1 h1
+  stepped_all e =
       let many = a.as_many in
       let le : length ts1 ≤ i = omega arith in
       let none = drop_all i ts1 le in
       record {
-        held-are =
+        held_are =
             sym (append-nil (all_held rs1 ts1))
             ∙ ap₂ (λ x y. all_held rs1 x ++ all_stepped h1 k (all_held rs1 y)) (sym (take_all i ts1 le)) (sym none)
-            ∙ a.held-are;
+            ∙ a.held_are;
         next_is = ap (λ x. after_all h1 k (all_held rs1 x)) (sym none) ∙ a.next_is;
         placed = λ j q. a.done j (omega arith);
       }
@@ -128,10 +128,10 @@ module _
     took =
         ap (all_held rs2) (take_more_set ts1 i x within)
         ∙ map_push (held rs2 3) (take i ts1) x
-        ∙ ap₂ (λ xs y. xs ++ (y ∷ [])) front moves.held-is
+        ∙ ap₂ (λ xs y. xs ++ (y ∷ [])) front moves.held_is
 
-    pub stepped-more : SteppedUpTo rs m k ts h (i + 1) rs2 ts2 h2
-    stepped-more =
+    pub stepped_more : SteppedUpTo rs m k ts h (i + 1) rs2 ts2 h2
+    stepped_more =
         let few = r.few in
         let some = r.some in
         let near1 = a.near in
@@ -142,11 +142,11 @@ module _
           as_many = length-set ts1 i x ∙ a.as_many;
           done = below_more _ _ (λ j u. let ne : j ≢ i = (λ e. omega arith) in still_placed j (m + k) ne (a.done j u)) now_placed;
           ahead = λ j u v. let ne : j ≢ i = (λ e. omega arith) in still_placed j m ne (a.ahead j (omega arith) v);
-          held-are =
+          held_are =
               ap₂ (λ xs ys. xs ++ all_stepped h2 k ys) took dropped
               ∙ ap (λ n. (all_held rs1 (take i ts1) ++ (stepped h1 k g ∷ [])) ++ all_stepped n k rest) moves.next_is
               ∙ append_assoc (all_held rs1 (take i ts1)) (stepped h1 k g ∷ []) (all_stepped (after h1 k g) k rest)
               ∙ ap (λ xs. all_held rs1 (take i ts1) ++ all_stepped h1 k xs) (sym opened)
-              ∙ a.held-are;
+              ∙ a.held_are;
           next_is = ap₂ (λ n xs. after_all n k xs) moves.next_is dropped ∙ ap (after_all h1 k) (sym opened) ∙ a.next_is;
         }

@@ -8,10 +8,10 @@ use Rattle.growing.specs.declared.edge.Edge.{Edge}
 use Rattle.growing.specs.Edges.{edge_vertices, edge_in, len_at, no_edge, OfLength}
 
 -- one vertex more is written behind those that were taken
-pub written-more :
+pub written_more :
     (ps old : List ℕ) (n h k : ℕ) → n + k < length ps → take (n + k) ps ≡ old ++ range h k
     → take (n + (k + 1)) (set ps (n + k) (h + k)) ≡ old ++ range h (k + 1)
-written-more ps old n h k p e =
+written_more ps old n h k p e =
     let m : n + (k + 1) ≡ n + k + 1 = omega arith in
     ap (λ i. take i (set ps (n + k) (h + k))) m
     ∙ take_more_set ps (n + k) (h + k) p

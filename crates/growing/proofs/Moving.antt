@@ -10,9 +10,9 @@ use Rattle.growing.specs.Stepping.{Ready, Moves, Steps}
 use Rattle.growing.proofs.Counts.{held_of_count, after_near}
 
 -- the last step is a step too
-stepped-last : (h k : ℕ) (g : NumberedContents) → stepped h (suc k) g ≡ step (after h k g) (stepped h k g)
-stepped-last h zero g = refl
-stepped-last h (suc k) g = stepped-last (h + taken g) k (step h g)
+stepped_last : (h k : ℕ) (g : NumberedContents) → stepped h (suc k) g ≡ step (after h k g) (stepped h k g)
+stepped_last h zero g = refl
+stepped_last h (suc k) g = stepped_last (h + taken g) k (step h g)
 
 after_last : (h k : ℕ) (g : NumberedContents) → after h (suc k) g ≡ after h k g + taken (stepped h k g)
 after_last h zero g = refl
@@ -44,8 +44,8 @@ module _ (rs : List Ring) (b d m k : ℕ) (t : TriangleContents) (h : ℕ) (r : 
       let e : suc j ≡ j + 1 = omega arith in
       let count : m + j + 1 ≡ m + (j + 1) = omega arith in
       record {
-        held-is = u.held-is ∙ ap₂ (λ x y. step x y) v.next_is v.held-is ∙ sym (stepped-last h j g) ∙ ap (λ n. stepped h n g) e;
-        next_is = u.next_is ∙ ap₂ (λ x y. x + taken y) v.next_is v.held-is ∙ sym (after_last h j g) ∙ ap (λ n. after h n g) e;
+        held_is = u.held_is ∙ ap₂ (λ x y. step x y) v.next_is v.held_is ∙ sym (stepped_last h j g) ∙ ap (λ n. stepped h n g) e;
+        next_is = u.next_is ∙ ap₂ (λ x y. x + taken y) v.next_is v.held_is ∙ sym (after_last h j g) ∙ ap (λ n. after h n g) e;
         placed = subst (λ (n : ℕ). Placed rs2 b d n t2) count u.placed;
         long = u.long ∙ v.long;
         others = λ i o. u.others i o ∙ v.others i o;

@@ -75,11 +75,11 @@ six_moves rs b (suc d) m x y z xy yz zx h g l r =
     let two : 2 ≤ g.len = omega arith in
     let nine : g.len ≤ 9 = omega arith in
     let one : Placed rs (suc b) d g.len (kind.One (suc (suc (suc h)))) = record { fits = len; own = tt; room = omega arith; wide = r.placed.wide } in
-    let inner : Placed rs (suc b) d g.len g.inner = subst (Placed rs (suc b) d g.len) (sym l.inner-is) one in
+    let inner : Placed rs (suc b) d g.len g.inner = subst (Placed rs (suc b) d g.len) (sym l.inner_is) one in
     let count : 3 + g.len ≡ m + 1 = omega arith in
     record {
-      held-is =
-          around_held rs b d g within inner two nine l.wide ∙ more_alike l.a-is l.b-is l.c-is len l.sides-are (ap (held rs d) l.inner-is);
+      held_is =
+          around_held rs b d g within inner two nine l.wide ∙ more_alike l.a_is l.b_is l.c_is len l.sides_are (ap (held rs d) l.inner_is);
       next_is = refl;
       placed = subst (λ (n : ℕ). Placed (set rs b g) b (suc d) n (kind.More b)) count (around_placed rs b d g within inner two nine l.wide);
       long = length-set rs b g;
@@ -105,16 +105,16 @@ more_ready rs i (suc d) m h g l r =
     = record { fits = f.4; own = r.placed.own.1; room = omega arith; wide = r.placed.wide } in
     record {
       placed =
-          subst (λ (x : ℕ × ℕ × TriangleContents). Placed rs x.0 x.1 (ring_at rs i).len x.2) (λ j. (next j, less j, sym l.inner-is j)) inner;
+          subst (λ (x : ℕ × ℕ × TriangleContents). Placed rs x.0 x.1 (ring_at rs i).len x.2) (λ j. (next j, less j, sym l.inner_is j)) inner;
       some = omega arith;
       few = omega arith;
       deep = omega arith;
       free = omega arith;
     }
 
-pub some-deep : (rs : List Ring) (i d m h : ℕ) → Ready rs i d m 1 (kind.More i) h → 1 ≤ d
-some-deep rs i zero m h r = absurd r.placed.own
-some-deep rs i (suc d) m h r = omega arith
+pub some_deep : (rs : List Ring) (i d m h : ℕ) → Ready rs i d m 1 (kind.More i) h → 1 ≤ d
+some_deep rs i zero m h r = absurd r.placed.own
+some_deep rs i (suc d) m h r = omega arith
 
 -- a ring with other contents inside
 abbrev with_inner : Ring → TriangleContents → Ring
@@ -136,7 +136,7 @@ more_moves rs rs1 i (suc d) m h h' g t l s r =
     let free : h + 3 ≡ suc (suc (suc h)) = omega arith in
     let v : Moves rs (suc i) d (ring_at rs i).len 1 (ring_at rs i).inner (suc (suc (suc h))) rs1 t h'
     = subst (λ (x : ℕ × ℕ × TriangleContents × ℕ). Moves rs x.0 x.1 (ring_at rs i).len 1 x.2 x.3 rs1 t h')
-    (λ j. (next j, less j, l.inner-is j, free j)) (s (ring_at rs i).len (more_ready rs i (suc d) m h g l r)) in
+    (λ j. (next j, less j, l.inner_is j, free j)) (s (ring_at rs i).len (more_ready rs i (suc d) m h g l r)) in
     let within : i < length rs1 = omega (arith, f.0, v.long) in
     let one : g.len ≡ suc (ring_at rs i).len = omega (arith, l.len_is) in
     let more : (ring_at rs i).len + 1 ≡ g.len = omega arith in
@@ -145,8 +145,8 @@ more_moves rs rs1 i (suc d) m h h' g t l s r =
     let inner : Placed rs1 (suc i) d g.len t = subst (λ (n : ℕ). Placed rs1 (suc i) d n t) more v.placed in
     let count : 3 + g.len ≡ m + 1 = omega arith in
     record {
-      held-is =
-          around_held rs1 i d q within inner low nine l.wide ∙ more_alike l.a-is l.b-is l.c-is one l.sides-are v.held-is;
+      held_is =
+          around_held rs1 i d q within inner low nine l.wide ∙ more_alike l.a_is l.b_is l.c_is one l.sides_are v.held_is;
       next_is = omega (arith, v.next_is);
       placed = subst (λ (n : ℕ). Placed (set rs1 i q) i (suc d) n (kind.More i)) count (around_placed rs1 i d q within inner low nine l.wide);
       long = length-set rs1 i q ∙ v.long;

@@ -19,14 +19,14 @@ module _ (n : ℕ) (es : List Edge) (ts : List TriangleContents) (rs : List Ring
   pub contents_of_count : Each (OfCount n) (all_held rs ts)
   contents_of_count = each_is (held rs 3) kind.None (OfCount n) ts (λ i p. held_of_count rs 3 n (kind_at ts i) (s.contents i p).wide (s.contents i p).fits)
 
-  pub edge-long : n ≤ 12 → (i : ℕ) → i < length es → length (edge_vertices (edge_in es i)) ≡ n
-  edge-long few i p =
+  pub edge_long : n ≤ 12 → (i : ℕ) → i < length es → length (edge_vertices (edge_in es i)) ≡ n
+  edge_long few i p =
       let e = s.edges i p in
       let fit : (edge_in es i).len ≤ length (edge_in es i).points = omega (arith, e.len, e.wide) in
       length-take-le (edge_in es i).len (edge_in es i).points fit ∙ e.len
 
-  pub edges-long : n ≤ 12 → Each (λ l. length l ≡ n) (map edge_vertices es)
-  edges-long few = each_is edge_vertices no_edge (λ l. length l ≡ n) es (edge-long few)
+  pub edges_long : n ≤ 12 → Each (λ l. length l ≡ n) (map edge_vertices es)
+  edges_long few = each_is edge_vertices no_edge (λ l. length l ≡ n) es (edge_long few)
 
 -- an edge of the numbering is the edge of the table
 pub edge_of_lem : (n total i : ℕ) (es : List Edge) (ts : List TriangleContents) (rs : List Ring) → i < length es → edge_of (numbering n total es ts rs) i ≡ edge_vertices (edge_in es i)

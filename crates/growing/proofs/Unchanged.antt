@@ -40,19 +40,19 @@ module _ (rs rs' : List Ring) where
   own_same b (suc d) (kind.More i) o e =
       (o.0, subst (λ (g : Ring). Own rs' (suc b) d g.inner) (sym (first b d i o.0 e)) (own_same (suc b) d (ring_at rs i).inner o.1 (after_first b d e)))
 
-  fits-same : (b d m : ℕ) (t : TriangleContents) → length rs' ≡ length rs → Own rs b d t → Same rs rs' b d → Fits rs d m t → Fits rs' d m t
-  fits-same b d m kind.None l o e f = f
-  fits-same b d m (kind.One x) l o e f = f
-  fits-same b d m (kind.Three x y z) l o e f = f
-  fits-same b d m (kind.Six x y z xy yz zx) l o e f = f
-  fits-same b zero m (kind.More i) l o e f = absurd o
-  fits-same b (suc d) m (kind.More i) l o e f =
+  fits_same : (b d m : ℕ) (t : TriangleContents) → length rs' ≡ length rs → Own rs b d t → Same rs rs' b d → Fits rs d m t → Fits rs' d m t
+  fits_same b d m kind.None l o e f = f
+  fits_same b d m (kind.One x) l o e f = f
+  fits_same b d m (kind.Three x y z) l o e f = f
+  fits_same b d m (kind.Six x y z xy yz zx) l o e f = f
+  fits_same b zero m (kind.More i) l o e f = absurd o
+  fits_same b (suc d) m (kind.More i) l o e f =
       let g : ring_at rs' i ≡ ring_at rs i = first b d i o.0 e in
       let n : (ring_at rs' i).len ≡ (ring_at rs i).len = ap (λ (g : Ring). g.len) g in
-      let inner = fits-same (suc b) d (ring_at rs i).len (ring_at rs i).inner l o.1 (after_first b d e) f.4 in
+      let inner = fits_same (suc b) d (ring_at rs i).len (ring_at rs i).inner l o.1 (after_first b d e) f.4 in
       (omega (arith, f.0), omega (arith, f.1), omega (arith, f.2), omega (arith, f.3), subst (λ (g : Ring). Fits rs' d g.len g.inner) (sym g) inner)
 
   pub placed_same : (b d m : ℕ) (t : TriangleContents) → length rs' ≡ length rs → Wide rs' → Same rs rs' b d → Placed rs b d m t → Placed rs' b d m t
   placed_same b d m t l w e p =
       let room = p.room in
-      record { fits = fits-same b d m t l p.own e p.fits; own = own_same b d t p.own e; room = omega arith; wide = w }
+      record { fits = fits_same b d m t l p.own e p.fits; own = own_same b d t p.own e; room = omega arith; wide = w }

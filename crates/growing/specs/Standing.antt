@@ -20,9 +20,9 @@ pub record Stands (n : ℕ) (es : List Edge) (ts : List TriangleContents) (rs : 
 
 -- the limits of a mesh with E edges, T triangles and so many vertices: no number is too large for u32
 pub record WithinLimits (E T total : ℕ) : Type 0 where
-  pub few-edges : E ≤ 96
-  pub few-triangles : T ≤ 32
-  pub few-vertices : total ≤ 3360
+  pub few_edges : E ≤ 96
+  pub few_triangles : T ≤ 32
+  pub few_vertices : total ≤ 3360
 
 -- tables that a mesh is made in: no vertex on any edge or in any triangle, and three rings for each triangle
 pub record Bare (es : List Edge) (ts : List TriangleContents) (rs : List Ring) : Type 0 where

@@ -16,7 +16,7 @@ pub record Ready (rs : List Ring) (b d m k : ℕ) (t : TriangleContents) (h : �
 
 -- what the k steps make of the table, of the contents and of the next free vertex, at one count m
 pub record Moves (rs : List Ring) (b d m k : ℕ) (t : TriangleContents) (h : ℕ) (rs' : List Ring) (t' : TriangleContents) (h' : ℕ) : Type 0 where
-  pub held-is : held rs' d t' ≡ stepped h k (held rs d t)
+  pub held_is : held rs' d t' ≡ stepped h k (held rs d t)
   pub next_is : h' ≡ after h k (held rs d t)
   pub placed : Placed rs' b d (m + k) t'
   pub long : length rs' ≡ length rs

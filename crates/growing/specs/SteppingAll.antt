@@ -28,7 +28,7 @@ pub record ReadyAll (rs : List Ring) (m k : ℕ) (ts : List TriangleContents) : 
 
 -- what the k steps make of the table, of the contents and of the next free vertex, at one count m
 pub record MovesAll (rs : List Ring) (m k : ℕ) (ts : List TriangleContents) (h : ℕ) (rs' : List Ring) (ts' : List TriangleContents) (h' : ℕ) : Type 0 where
-  pub held-are : all_held rs' ts' ≡ all_stepped h k (all_held rs ts)
+  pub held_are : all_held rs' ts' ≡ all_stepped h k (all_held rs ts)
   pub next_is : h' ≡ after_all h k (all_held rs ts)
   pub placed : AllPlaced rs' (m + k) ts'
 

@@ -82,8 +82,8 @@ lead_is (c ∷ cs) =
     (cases_Bool (letter c))
 
 -- what stands at a letter
-at-letter : (within : Bool) (c : ℕ) (cs : List ℕ) → letter c ≡ true → words_from within (c ∷ cs) ≡ cond within (words_from true cs) ((c ∷ lead cs) ∷ words_from true cs)
-at-letter within c cs e = cond-false (blank c) _ _ (letter_parts c e).0 ∙ cond-false (eqb c 35) _ _ (letter_parts c e).1
+at_letter : (within : Bool) (c : ℕ) (cs : List ℕ) → letter c ≡ true → words_from within (c ∷ cs) ≡ cond within (words_from true cs) ((c ∷ lead cs) ∷ words_from true cs)
+at_letter within c cs e = cond-false (blank c) _ _ (letter_parts c e).0 ∙ cond-false (eqb c 35) _ _ (letter_parts c e).1
 
 -- at any other byte it does not matter whether the text begins within a word
 at_other : (c : ℕ) (cs : List ℕ) → letter c ≡ false → words_from true (c ∷ cs) ≡ words_from false (c ∷ cs)
@@ -97,7 +97,7 @@ words_past_letters : (cs : List ℕ) → words_from true cs ≡ words (drop (pre
 words_past_letters [] = refl
 words_past_letters (c ∷ cs) =
     ⊎_elim
-    (λ e. at-letter true c cs e ∙ words_past_letters cs ∙ sym (ap (λ n. words (drop n (c ∷ cs))) (longer letter c cs e)))
+    (λ e. at_letter true c cs e ∙ words_past_letters cs ∙ sym (ap (λ n. words (drop n (c ∷ cs))) (longer letter c cs e)))
     (λ e. at_other c cs e ∙ sym (ap (λ n. words (drop n (c ∷ cs))) (none letter c cs e)))
     (cases_Bool (letter c))
 
@@ -106,8 +106,8 @@ one_word [] word rest p q some = absurd (omega (arith, ap length p))
 one_word (c ∷ cs) word rest p q some =
     ⊎_elim
     (λ e.
-    at-letter false c cs e
-    ∙ (λ i. (sym (cond-true (letter c) (c ∷ lead cs) [] e) ∙ sym (lead_is (c ∷ cs)) ∙ sym p) i ∷ (sym (at-letter true c cs e) ∙ words_past_letters (c ∷ cs) ∙ sym (ap words q)) i))
+    at_letter false c cs e
+    ∙ (λ i. (sym (cond-true (letter c) (c ∷ lead cs) [] e) ∙ sym (lead_is (c ∷ cs)) ∙ sym p) i ∷ (sym (at_letter true c cs e) ∙ words_past_letters (c ∷ cs) ∙ sym (ap words q)) i))
     (λ e. absurd (omega (arith, ap length p, ap (λ n. length (take n (c ∷ cs))) (none letter c cs e))))
     (cases_Bool (letter c))
 
@@ -127,5 +127,5 @@ no_word line text word p q none =
     ∙ no_letter text (ap (prefix_len blank) p ∙ ends blank line)
     (omega (arith, ap length q, length-take-le (prefix_len letter text) text (prefix_len-le-length letter text)))
 
-pub same-words : (line text : List ℕ) → text ≡ drop (prefix_len blank line) line → words line ≡ words text
-same-words line text p = sym (words_past_blanks line) ∙ sym (ap words p)
+pub same_words : (line text : List ℕ) → text ≡ drop (prefix_len blank line) line → words line ≡ words text
+same_words line text p = sym (words_past_blanks line) ∙ sym (ap words p)

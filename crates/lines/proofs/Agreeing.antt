@@ -12,29 +12,29 @@ pub record Agree (m : ℕ) (r q : Ring ℕ) : Type 0 where
   pub inner : (s : Side) (i : ℕ) → inner_at s r i ≡ inner_at s q i
 
 -- a view reads what a ring of the same contents reads, if its edges do
-pub view-agrees :
+pub view_agrees :
     (m : ℕ) (w : RingView) (a b c : ℕ) (ab bc ca : ℕ → ℕ) (t : Contents ℕ) → w.a ≡ a → inside w ≡ t
     → ((s : Side) (i : ℕ) → i < m → edge_at s (ring_of_view w) i ≡ edge_at s (ring_of a b c ab bc ca t) i) → Agree m (ring_of_view w) (ring_of a b c ab bc ca t)
-view-agrees m w a b c ab bc ca t e f h = record { edges = h; inner = inner }
+view_agrees m w a b c ab bc ca t e f h = record { edges = h; inner = inner }
   where
     inner : (s : Side) (i : ℕ) → inner_at s (ring_of_view w) i ≡ inner_at s (ring_of a b c ab bc ca t) i
     inner Ab i = ap₂ (λ x y. pos_ab x y i) e f
     inner Bc i = ap₂ (λ x y. pos_bc x y i) e f
     inner Ca i = ap₂ (λ x y. pos_ca x y i) e f
 
-up-agree : (i k : ℕ) (f g : ℕ → ℕ) → ((j : ℕ) → f j ≡ g j) → up i k (λ j. f j ∷ []) ≡ up i k (λ j. g j ∷ [])
-up-agree i zero f g h = refl
-up-agree i (suc k) f g h = ap₂ (λ x l. x ∷ l) (h i) (up-agree (suc i) k f g h)
+up_agree : (i k : ℕ) (f g : ℕ → ℕ) → ((j : ℕ) → f j ≡ g j) → up i k (λ j. f j ∷ []) ≡ up i k (λ j. g j ∷ [])
+up_agree i zero f g h = refl
+up_agree i (suc k) f g h = ap₂ (λ x l. x ∷ l) (h i) (up_agree (suc i) k f g h)
 
-down-agree : (k : ℕ) (f g : ℕ → List ℕ) → ((i : ℕ) → i ≤ k → f i ≡ g i) → down k f ≡ down k g
-down-agree zero f g h = refl
-down-agree (suc k) f g h = ap₂ (λ x y. x ++ y) (h (suc k) (omega arith)) (down-agree k f g (λ i l. h i (omega arith)))
+down_agree : (k : ℕ) (f g : ℕ → List ℕ) → ((i : ℕ) → i ≤ k → f i ≡ g i) → down k f ≡ down k g
+down_agree zero f g h = refl
+down_agree (suc k) f g h = ap₂ (λ x y. x ++ y) (h (suc k) (omega arith)) (down_agree k f g (λ i l. h i (omega arith)))
 
 module _ (r q : Ring ℕ) where
-  zigzag-agree : (z : ℕ) → Agree (suc z) r q → (s : Side) → zigzag z (edge_at s r) (inner_at s r) ≡ zigzag z (edge_at s q) (inner_at s q)
-  zigzag-agree z a s =
+  zigzag_agree : (z : ℕ) → Agree (suc z) r q → (s : Side) → zigzag z (edge_at s r) (inner_at s r) ≡ zigzag z (edge_at s q) (inner_at s q)
+  zigzag_agree z a s =
       ap₂ (λ l x. l ++ (x ∷ []))
-      (down-agree z (λ i. edge_at s r i ∷ inner_at s r (i - 1) ∷ []) (λ i. edge_at s q i ∷ inner_at s q (i - 1) ∷ [])
+      (down_agree z (λ i. edge_at s r i ∷ inner_at s r (i - 1) ∷ []) (λ i. edge_at s q i ∷ inner_at s q (i - 1) ∷ [])
       (λ i h. ap₂ (λ x y. x ∷ y ∷ []) (a.edges s i (omega arith)) (a.inner s (i - 1))))
       (a.edges s 0 (omega arith))
 
@@ -55,15 +55,15 @@ module _ (r q : Ring ℕ) where
       let o = a.inner Ab 0 in
       cc
   strip_agree (suc (suc (suc k))) a =
-      let p = up-agree 0 (suc k) r.AB q.AB (a.inner Ab) in
-      let p' = up-agree 0 (suc k) r.BC q.BC (a.inner Bc) in
-      let p'' = up-agree 0 (suc k) r.CA q.CA (a.inner Ca) in
+      let p = up_agree 0 (suc k) r.AB q.AB (a.inner Ab) in
+      let p' = up_agree 0 (suc k) r.BC q.BC (a.inner Bc) in
+      let p'' = up_agree 0 (suc k) r.CA q.CA (a.inner Ca) in
       let x = a.inner Ab 0 in
       let y = a.edges Ab 0 (omega arith) in
       ap₂ (λ l z. l ++ z)
       (ap₂ (λ l z. l ++ z)
       (ap₂ (λ l z. l ++ z)
       (ap₂ (λ l z. l ++ z) (ap₂ (λ l z. l ++ z) (ap₂ (λ l z. l ++ z) p p') p'') (ap₂ (λ t z. t ∷ z ∷ []) x y))
-      (zigzag-agree (suc (suc k)) a Ca))
-      (zigzag-agree (suc (suc k)) a Bc))
-      (zigzag-agree (suc (suc k)) a Ab)
+      (zigzag_agree (suc (suc k)) a Ca))
+      (zigzag_agree (suc (suc k)) a Bc))
+      (zigzag_agree (suc (suc k)) a Ab)

@@ -12,7 +12,7 @@ use Rattle.rings.specs.Held.{ring_at, held_view, Fits}
 use Rattle.rings.specs.Views.{edge_at, inside, ring_of_view, table_ring, Shows}
 use Rattle.rings.proofs.InRing.{at_side}
 use Rattle.lines.specs.ViewStrips.{own_strip, WholeView}
-use Rattle.lines.proofs.Agreeing.{view-agrees, strip_agree}
+use Rattle.lines.proofs.Agreeing.{view_agrees, strip_agree}
 
 -- the strips of contents that the table holds
 abbrev pub strips_inside : List Ring → ℕ → TriangleContents → List (List ℕ)
@@ -29,15 +29,15 @@ module _ (rs : List Ring) (d i : ℕ) (w : RingView) (shows : Shows rs d i w) wh
   ring = ring_at rs i
 
   fits : Fits rs d ring.len ring.inner → Fits rs d ring.len w.inner
-  fits f = subst (λ (t : TriangleContents). Fits rs d ring.len t) (sym shows.inner-is) f
+  fits f = subst (λ (t : TriangleContents). Fits rs d ring.len t) (sym shows.inner_is) f
 
   whole : ring.len ≤ 9 → Fits rs d ring.len ring.inner → WholeView w
   whole h f =
-      let l = shows.ab-long in
+      let l = shows.ab_long in
       record {
         on_ab = refl;
-        on_bc = shows.bc-long ∙ sym l;
-        on_ca = shows.ca-long ∙ sym l;
+        on_bc = shows.bc_long ∙ sym l;
+        on_ca = shows.ca_long ∙ sym l;
         few = omega arith;
         goes =
             subst (λ (n : ℕ). Fits w.rings.now w.depth n w.inner) (sym l)
@@ -45,28 +45,28 @@ module _ (rs : List Ring) (d i : ℕ) (w : RingView) (shows : Shows rs d i w) wh
             (subst (λ (l : List Ring). Fits l d ring.len w.inner) (sym shows.rings_are) (fits f)));
       }
 
-  same-inside : inside w ≡ held_view rs d ring.inner
-  same-inside =
-      ap (λ l. held_view l w.depth w.inner) shows.rings_are ∙ ap₂ (λ n t. held_view rs n t) shows.depth_is shows.inner-is
+  same_inside : inside w ≡ held_view rs d ring.inner
+  same_inside =
+      ap (λ l. held_view l w.depth w.inner) shows.rings_are ∙ ap₂ (λ n t. held_view rs n t) shows.depth_is shows.inner_is
 
   edges : (s : Side) (j : ℕ) → j < ring.len → edge_at s (ring_of_view w) j ≡ edge_at s (table_ring rs d i) j
-  edges Ab j h = ap (λ l. get_or l j 0) shows.ab-is ∙ at_side ring Ab j h
-  edges Bc j h = ap (λ l. get_or l j 0) shows.bc-is ∙ at_side ring Bc j h
-  edges Ca j h = ap (λ l. get_or l j 0) shows.ca-is ∙ at_side ring Ca j h
+  edges Ab j h = ap (λ l. get_or l j 0) shows.ab_is ∙ at_side ring Ab j h
+  edges Bc j h = ap (λ l. get_or l j 0) shows.bc_is ∙ at_side ring Bc j h
+  edges Ca j h = ap (λ l. get_or l j 0) shows.ca_is ∙ at_side ring Ca j h
 
   shown_strip : own_strip w ≡ ring_strip ring.len (table_ring rs d i)
   shown_strip =
       let r : pattern.Ring ℕ = table_ring rs d i in
-      ap (λ n. ring_strip n (ring_of_view w)) shows.ab-long
+      ap (λ n. ring_strip n (ring_of_view w)) shows.ab_long
       ∙ strip_agree (ring_of_view w) r ring.len
-      (view-agrees ring.len w r.a r.b r.c r.ab r.bc r.ca (held_view rs d ring.inner) shows.a-is same-inside edges)
+      (view_agrees ring.len w r.a r.b r.c r.ab r.bc r.ca (held_view rs d ring.inner) shows.a_is same_inside edges)
 
   shown : (m : ℕ) → Fits rs (suc d) m (kind.More i) → Turn rs (suc d) (kind.More i) d w
   shown m f =
       record {
         whole_ring = whole f.3 f.4;
         goes = (ring.len, fits f.4);
-        strips = ap₂ (λ l t. l ∷ strips_inside rs d t) (sym shown_strip) (sym shows.inner-is);
+        strips = ap₂ (λ l t. l ∷ strips_inside rs d t) (sym shown_strip) (sym shows.inner_is);
       }
 
 pub turn :
@@ -80,16 +80,16 @@ turn rs d m i t w f e h =
         let e : suc n - 1 ≡ n = omega arith in
         subst (λ (k : ℕ). Turn rs (suc n) (kind.More i) k w) (sym e) (shown rs n i w (subst (λ (k : ℕ). Shows rs k i w) e h) m f)
 
-pub six-inside :
+pub six_inside :
     (rs : List Ring) (d : ℕ) (t : TriangleContents) (a b c ab bc ca : ℕ) → t ≡ kind.Six a b c ab bc ca
     → strips_inside rs d t ≡ (ab ∷ bc ∷ ca ∷ ab ∷ []) ∷ []
-six-inside rs d t a b c ab bc ca e = ap (strips_inside rs d) e
+six_inside rs d t a b c ab bc ca e = ap (strips_inside rs d) e
 
-pub nothing-inside :
+pub nothing_inside :
     (rs : List Ring) (d : ℕ) (t : TriangleContents) → ((i : ℕ) → t ≡ kind.More i → ⊥) → ((a b c ab bc ca : ℕ) → t ≡ kind.Six a b c ab bc ca → ⊥)
     → strips_inside rs d t ≡ []
-nothing-inside rs d kind.None h k = refl
-nothing-inside rs d (kind.One x) h k = refl
-nothing-inside rs d (kind.Three a b c) h k = refl
-nothing-inside rs d (kind.Six a b c ab bc ca) h k = absurd (k a b c ab bc ca refl)
-nothing-inside rs d (kind.More i) h k = absurd (h i refl)
+nothing_inside rs d kind.None h k = refl
+nothing_inside rs d (kind.One x) h k = refl
+nothing_inside rs d (kind.Three a b c) h k = refl
+nothing_inside rs d (kind.Six a b c ab bc ca) h k = absurd (k a b c ab bc ca refl)
+nothing_inside rs d (kind.More i) h k = absurd (h i refl)

@@ -14,10 +14,10 @@ use Rattle.shape.specs.Sides.{Use, uses}
 use Rattle.mesh.specs.Faces.{at, patches_from, patches, faces, faces_or_none, face_numbers, edge_path, FacesAreCounted}
 use Rattle.mesh.specs.Numbering.{Numbering, edge_of}
 use Rattle.mesh.specs.Strips.{strips_or_none, major_from, unless_seen, major_strips, patches_strips, LinesAreCounted}
-use Rattle.mesh.proofs.Boundary.{edges-below}
+use Rattle.mesh.proofs.Boundary.{edges_below}
 use Rattle.mesh.proofs.Firsts.{firsts, firsts_below, firsts_one}
 use Rattle.mesh.proofs.Invariant.{Inv, reached_inv}
-use Rattle.mesh.proofs.Placed.{edge-long, all_placed}
+use Rattle.mesh.proofs.Placed.{edge_long, all_placed}
 use Rattle.mesh.proofs.Sum.{times, sum_to, sum_eq, exchange}
 
 -- ---- one triangle
@@ -49,10 +49,10 @@ patches_many seen (t ∷ ts) (g ∷ gs) e =
     ap suc (patches_many (t.ca ∷ t.bc ∷ t.ab ∷ seen) ts gs (let z : length gs ≡ length ts = omega arith in z))
 
 -- ---- all triangles
-all-faces : (n : ℕ) → n ≤ 12 → (E : ℕ → List ℕ) (ts : List Patch) → Each (Full n) ts → length (all_faces n E ts) ≡ length ts * triangle_face_count n
-all-faces n h E [] a = sym (zero-mul (triangle_face_count n))
-all-faces n h E (t ∷ ts) a =
-    length-append (patch_faces n E t) (all_faces n E ts) ∙ ap₂ (λ x y. x + y) (amounts n h E t a.0).faces (all-faces n h E ts a.1)
+all_faces_lem : (n : ℕ) → n ≤ 12 → (E : ℕ → List ℕ) (ts : List Patch) → Each (Full n) ts → length (all_faces n E ts) ≡ length ts * triangle_face_count n
+all_faces_lem n h E [] a = sym (zero-mul (triangle_face_count n))
+all_faces_lem n h E (t ∷ ts) a =
+    length-append (patch_faces n E t) (all_faces n E ts) ∙ ap₂ (λ x y. x + y) (amounts n h E t a.0).faces (all_faces_lem n h E ts a.1)
     ∙ one_more (triangle_face_count n) (length ts)
   where
     one_more : (x k : ℕ) → x + k * x ≡ suc k * x
@@ -62,33 +62,33 @@ pub lengths-++ : (l m : List (List ℕ)) → lengths (l ++ m) ≡ lengths l + le
 lengths-++ [] m = omega arith
 lengths-++ (x ∷ l) m = omega (arith, lengths-++ l m)
 
-all-numbers : (n : ℕ) → n ≤ 12 → (E : ℕ → List ℕ) (ts : List Patch) → Each (Full n) ts → lengths (patches_strips n E ts) ≡ length ts * triangle_line_numbers n
-all-numbers n h E [] a = sym (zero-mul (triangle_line_numbers n))
-all-numbers n h E (t ∷ ts) a =
+all_numbers_lem : (n : ℕ) → n ≤ 12 → (E : ℕ → List ℕ) (ts : List Patch) → Each (Full n) ts → lengths (patches_strips n E ts) ≡ length ts * triangle_line_numbers n
+all_numbers_lem n h E [] a = sym (zero-mul (triangle_line_numbers n))
+all_numbers_lem n h E (t ∷ ts) a =
     lengths-++ (patch_strips n E t) ([] ∷ patches_strips n E ts)
-    ∙ total (lengths (patch_strips n E t)) (triangle_line_numbers n) (lengths (patches_strips n E ts)) (length ts) (amounts n h E t a.0).numbers (all-numbers n h E ts a.1)
+    ∙ total (lengths (patch_strips n E t)) (triangle_line_numbers n) (lengths (patches_strips n E ts)) (length ts) (amounts n h E t a.0).numbers (all_numbers_lem n h E ts a.1)
   where
     total : (p x q k : ℕ) → p ≡ x → q ≡ k * x → p + (0 + q) ≡ suc k * x
     total p x q k d e = omega (arith, suc-mul k x)
 
-all-breaks : (n : ℕ) → n ≤ 12 → (E : ℕ → List ℕ) (ts : List Patch) → Each (Full n) ts → length (patches_strips n E ts) ≡ length ts * (triangle_line_breaks n + 1)
-all-breaks n h E [] a = sym (zero-mul (triangle_line_breaks n + 1))
-all-breaks n h E (t ∷ ts) a =
+all_breaks_lem : (n : ℕ) → n ≤ 12 → (E : ℕ → List ℕ) (ts : List Patch) → Each (Full n) ts → length (patches_strips n E ts) ≡ length ts * (triangle_line_breaks n + 1)
+all_breaks_lem n h E [] a = sym (zero-mul (triangle_line_breaks n + 1))
+all_breaks_lem n h E (t ∷ ts) a =
     length-append (patch_strips n E t) ([] ∷ patches_strips n E ts)
-    ∙ total (length (patch_strips n E t)) (triangle_line_breaks n) (length (patches_strips n E ts)) (length ts) (amounts n h E t a.0).breaks (all-breaks n h E ts a.1)
+    ∙ total (length (patch_strips n E t)) (triangle_line_breaks n) (length (patches_strips n E ts)) (length ts) (amounts n h E t a.0).breaks (all_breaks_lem n h E ts a.1)
   where
     total : (p x q k : ℕ) → p ≡ x → q ≡ k * (x + 1) → p + suc q ≡ suc k * (x + 1)
     total p x q k d e = omega (arith, suc-mul k (x + 1))
 
 -- ---- the major edges
-edge-numbers : (N : Numbering) (u : Use) → length (edge_path N u) ≡ length (edge_of N u.edge) + 2
-edge-numbers N u = omega (arith, length-append (edge_of N u.edge) (u.stop ∷ []))
+edge_numbers : (N : Numbering) (u : Use) → length (edge_path N u) ≡ length (edge_of N u.edge) + 2
+edge_numbers N u = omega (arith, length-append (edge_of N u.edge) (u.stop ∷ []))
 
 module _ (N : Numbering) (E : ℕ) (long : (e : ℕ) → e < E → length (edge_of N e) ≡ N.n) where
   major_numbers_lem : (seen : List ℕ) (us : List Use) → Each (λ u. u.edge < E) us → lengths (major_from seen N us) ≡ weigh (λ e. N.n + 2) (firsts seen us)
   major_numbers_lem seen [] b = refl
   major_numbers_lem seen (u ∷ us) b =
-      step (among eqb u.edge seen) (length (edge_path N u)) (edge-numbers N u ∙ ap (λ x. x + 2) (long u.edge b.0))
+      step (among eqb u.edge seen) (length (edge_path N u)) (edge_numbers N u ∙ ap (λ x. x + 2) (long u.edge b.0))
       (major_numbers_lem (u.edge ∷ seen) us b.1)
     where
       step :
@@ -96,7 +96,7 @@ module _ (N : Numbering) (E : ℕ) (long : (e : ℕ) → e < E → length (edge_
           → lengths (unless_seen c (edge_path N u) (major_from (u.edge ∷ seen) N us))
           ≡ weigh (λ e. N.n + 2) (cond c (firsts (u.edge ∷ seen) us) (u.edge ∷ firsts (u.edge ∷ seen) us))
       step true x d r = r
-      step false x d r = ap₂ (λ p q. p + q) (edge-numbers N u ∙ ap (λ p. p + 2) (long u.edge b.0)) r
+      step false x d r = ap₂ (λ p q. p + q) (edge_numbers N u ∙ ap (λ p. p + 2) (long u.edge b.0)) r
 
   major_breaks_lem : (seen : List ℕ) (us : List Use) → length (major_from seen N us) ≡ weigh (λ e. 1) (firsts seen us)
   major_breaks_lem seen [] = refl
@@ -122,8 +122,8 @@ firsts_all E c us b one =
     ∙ sum_eq E (λ e. times (occ e (firsts [] us)) c) (λ e. c) (λ e l. ap (λ k. times k c) (one e l) ∙ (let z : c + 0 ≡ c = omega arith in z))
     ∙ sum_same E c
 
-pub faces-counted : FacesAreCounted
-faces-counted P E ts A N R =
+pub faces_counted : FacesAreCounted
+faces_counted P E ts A N R =
     record {
       triangle = λ t l.
           let o = there (Full N.n) (patches ts N) F t (let z : t < length (patches ts N) = omega (arith, many) in z) in
@@ -133,7 +133,7 @@ faces-counted P E ts A N R =
       all =
           three_each (faces ts N)
           ∙ swap (length (faces ts N)) (length ts) (triangle_face_count N.n)
-          (all-faces N.n I.small (edge_of N) (patches ts N) F ∙ ap (λ k. k * triangle_face_count N.n) many);
+          (all_faces_lem N.n I.small (edge_of N) (patches ts N) F ∙ ap (λ k. k * triangle_face_count N.n) many);
     }
   where
     I : Inv P E (length ts) N
@@ -143,7 +143,7 @@ faces-counted P E ts A N R =
     F = full N.n P (edge_of N) (patches ts N) (all_placed P E ts A N I)
 
     many : length (patches ts N) ≡ length ts
-    many = patches_many [] ts N.contents I.contents-count
+    many = patches_many [] ts N.contents I.contents_count
 
     swap : (x k c : ℕ) → x ≡ k * c → 3 * x ≡ k * (3 * c)
     swap x k c e = omega (arith, mul-add k c (c + c), mul-add k c c)
@@ -151,20 +151,20 @@ faces-counted P E ts A N R =
 pub lines_counted : LinesAreCounted
 lines_counted P E ts A N R =
     record {
-      triangle-numbers = λ t l.
-          let o = at-triangle t l in
+      triangle_numbers = λ t l.
+          let o = at_triangle t l in
           ap (λ p. lengths (strips_or_none N p)) o.is ∙ (amounts N.n I.small (edge_of N) o.x o.holds).numbers;
-      triangle-breaks = λ t l.
-          let o = at-triangle t l in
+      triangle_breaks = λ t l.
+          let o = at_triangle t l in
           ap (λ p. length (strips_or_none N p)) o.is ∙ (amounts N.n I.small (edge_of N) o.x o.holds).breaks;
       major_numbers_lem = numbers;
       major_breaks_lem = breaks;
-      all-numbers =
+      all_numbers_lem =
           lengths-++ (patches_strips N.n (edge_of N) (patches ts N)) (major_strips ts N)
-          ∙ ap₂ (λ x y. x + y) (all-numbers N.n I.small (edge_of N) (patches ts N) F ∙ ap (λ k. k * triangle_line_numbers N.n) many) numbers;
-      all-breaks =
+          ∙ ap₂ (λ x y. x + y) (all_numbers_lem N.n I.small (edge_of N) (patches ts N) F ∙ ap (λ k. k * triangle_line_numbers N.n) many) numbers;
+      all_breaks_lem =
           length-append (patches_strips N.n (edge_of N) (patches ts N)) (major_strips ts N)
-          ∙ ap₂ (λ x y. x + y) (all-breaks N.n I.small (edge_of N) (patches ts N) F ∙ ap (λ k. k * (triangle_line_breaks N.n + 1)) many) breaks;
+          ∙ ap₂ (λ x y. x + y) (all_breaks_lem N.n I.small (edge_of N) (patches ts N) F ∙ ap (λ k. k * (triangle_line_breaks N.n + 1)) many) breaks;
     }
   where
     I : Inv P E (length ts) N
@@ -174,21 +174,21 @@ lines_counted P E ts A N R =
     F = full N.n P (edge_of N) (patches ts N) (all_placed P E ts A N I)
 
     many : length (patches ts N) ≡ length ts
-    many = patches_many [] ts N.contents I.contents-count
+    many = patches_many [] ts N.contents I.contents_count
 
-    at-triangle : (t : ℕ) → t < length ts → There (Full N.n) (patches ts N) t
-    at-triangle t l = there (Full N.n) (patches ts N) F t (let z : t < length (patches ts N) = omega (arith, many) in z)
+    at_triangle : (t : ℕ) → t < length ts → There (Full N.n) (patches ts N) t
+    at_triangle t l = there (Full N.n) (patches ts N) F t (let z : t < length (patches ts N) = omega (arith, many) in z)
 
     once : (e : ℕ) → e < E → occ e (firsts [] (uses ts)) ≡ 1
     once e l = firsts_one e [] (uses ts) refl (A.used.edges e l)
 
     numbers : lengths (major_strips ts N) ≡ length N.edges * (N.n + 2)
     numbers =
-        major_numbers_lem N E (edge-long P E ts A N I) [] (uses ts) (edges-below P E ts A N I)
-        ∙ firsts_all E (N.n + 2) (uses ts) (edges-below P E ts A N I) once ∙ ap (λ k. k * (N.n + 2)) (sym I.edge_count)
+        major_numbers_lem N E (edge_long P E ts A N I) [] (uses ts) (edges_below P E ts A N I)
+        ∙ firsts_all E (N.n + 2) (uses ts) (edges_below P E ts A N I) once ∙ ap (λ k. k * (N.n + 2)) (sym I.edge_count)
 
     breaks : length (major_strips ts N) ≡ length N.edges
     breaks =
         let a : length (major_strips ts N) ≡ E * 1
-        = major_breaks_lem N E (edge-long P E ts A N I) [] (uses ts) ∙ firsts_all E 1 (uses ts) (edges-below P E ts A N I) once in
+        = major_breaks_lem N E (edge_long P E ts A N I) [] (uses ts) ∙ firsts_all E 1 (uses ts) (edges_below P E ts A N I) once in
         omega (arith, I.edge_count)

@@ -5,7 +5,7 @@ use Rattle.pattern.specs.Place.{Patch, patch_faces, patch_strips, all_faces}
 use Rattle.pattern.specs.Ring.{Face}
 use Rattle.pattern.specs.Sides.{occ, among}
 use Rattle.pattern.specs.Step.{NumberedContents, vertices, range, OfCount}
-use Rattle.pattern.proofs.Below.{FaceBelow, faces-below, strips-below}
+use Rattle.pattern.proofs.Below.{FaceBelow, faces_below, strips_below}
 use Rattle.pattern.proofs.Occurrences.{occ-cons, hits_yes, occ-++, occ_alike, range_in, range_above}
 use Rattle.shape.specs.declared.triangle.Triangle.{Triangle}
 use Rattle.shape.specs.Lists.{Each}
@@ -14,9 +14,9 @@ use Rattle.shape.specs.Sides.{Use, uses}
 use Rattle.mesh.specs.Faces.{at, patches_from, patches, faces, faces_of, faces_or_none, face_numbers, edge_path}
 use Rattle.mesh.specs.Numbering.{Numbering, flat, inners, given, edge_of}
 use Rattle.mesh.specs.Strips.{strips_or_none, major_from, unless_seen, major_strips, patches_strips, NumbersAreBelow}
-use Rattle.mesh.proofs.Boundary.{Ends, uses-ends}
+use Rattle.mesh.proofs.Boundary.{Ends, uses_ends}
 use Rattle.mesh.proofs.Invariant.{Inv, reached_inv}
-use Rattle.mesh.proofs.Placed.{patch, corner-below, edge-below, one-edge, on_edge}
+use Rattle.mesh.proofs.Placed.{patch, corner_below, edge_below, one_edge, on_edge}
 
 -- ---- lists
 each-++ : {X : Type 0} (R : X → Type 0) (l m : List X) → Each R l → Each R m → Each R (l ++ m)
@@ -51,22 +51,22 @@ module _ (P E : ℕ) (ts : List Triangle) (A : Accepted P E ts) (N : Numbering) 
             occ-++ x (flat N.edges) (inners N.contents),
           ) in z)
 
-  point-below : (x : ℕ) → x < P → x < Z
-  point-below x l = given_below x (omega (arith, range_in x 0 P (omega arith) (omega arith)))
+  point_below : (x : ℕ) → x < P → x < Z
+  point_below x l = given_below x (omega (arith, range_in x 0 P (omega arith) (omega arith)))
 
   edge_number : (x e : ℕ) → e < E → 1 ≤ occ x (edge_of N e) → x < Z
-  edge_number x e l c = given_below x (omega (arith, one-edge P E ts A N I x e l))
+  edge_number x e l c = given_below x (omega (arith, one_edge P E ts A N I x e l))
 
   abbrev Fine : Patch → Type 0
   Fine t = Each (FaceBelow Z) (patch_faces N.n (edge_of N) t) × Each (Each (λ x. x < Z)) (patch_strips N.n (edge_of N) t)
 
   fine : (seen : List ℕ) (t : Triangle) (g : NumberedContents) → Below P E t → OfCount N.n g → ((x : ℕ) → 1 ≤ occ x (vertices g) → x < Z) → Fine (patch seen t g)
   fine seen t g b r f =
-      let corner = λ (k : ℕ) (l : k < 3). point-below ((patch seen t g).tri.corner k) (corner-below P E t b k) in
-      let edge = λ (k i : ℕ) (l : k < 3) (m : i < N.n). edge_number _ ((patch seen t g).tri.edge k) (edge-below P E t b k)
-      (on_edge P E ts A N I ((patch seen t g).tri.edge k) i (edge-below P E t b k) m) in (
-        faces-below N.n I.small (edge_of N) (patch seen t g) r Z corner edge f,
-        strips-below N.n I.small (edge_of N) (patch seen t g) r Z corner edge f,
+      let corner = λ (k : ℕ) (l : k < 3). point_below ((patch seen t g).tri.corner k) (corner_below P E t b k) in
+      let edge = λ (k i : ℕ) (l : k < 3) (m : i < N.n). edge_number _ ((patch seen t g).tri.edge k) (edge_below P E t b k)
+      (on_edge P E ts A N I ((patch seen t g).tri.edge k) i (edge_below P E t b k) m) in (
+        faces_below N.n I.small (edge_of N) (patch seen t g) r Z corner edge f,
+        strips_below N.n I.small (edge_of N) (patch seen t g) r Z corner edge f,
       )
 
   all_fine :
@@ -79,31 +79,31 @@ module _ (P E : ℕ) (ts : List Triangle) (A : Accepted P E ts) (N : Numbering) 
     all_fine (t.ca ∷ t.bc ∷ t.ab ∷ seen) us gs b.1 r.1 (λ x c. f x (omega (arith, occ-++ x (vertices g) (inners gs)))),
   )
 
-  faces-all : (fs : List Patch) → Each Fine fs → Each (FaceBelow Z) (all_faces N.n (edge_of N) fs)
-  faces-all [] a = tt
-  faces-all (t ∷ fs) a =
-      each-++ (FaceBelow Z) (patch_faces N.n (edge_of N) t) (all_faces N.n (edge_of N) fs) a.0.0 (faces-all fs a.1)
+  faces_all : (fs : List Patch) → Each Fine fs → Each (FaceBelow Z) (all_faces N.n (edge_of N) fs)
+  faces_all [] a = tt
+  faces_all (t ∷ fs) a =
+      each-++ (FaceBelow Z) (patch_faces N.n (edge_of N) t) (all_faces N.n (edge_of N) fs) a.0.0 (faces_all fs a.1)
 
-  strips-all : (fs : List Patch) → Each Fine fs → Each (Each (λ x. x < Z)) (patches_strips N.n (edge_of N) fs)
-  strips-all [] a = tt
-  strips-all (t ∷ fs) a =
-      each-++ (Each (λ x. x < Z)) (patch_strips N.n (edge_of N) t) ([] ∷ patches_strips N.n (edge_of N) fs) a.0.1 (tt, strips-all fs a.1)
+  strips_all : (fs : List Patch) → Each Fine fs → Each (Each (λ x. x < Z)) (patches_strips N.n (edge_of N) fs)
+  strips_all [] a = tt
+  strips_all (t ∷ fs) a =
+      each-++ (Each (λ x. x < Z)) (patch_strips N.n (edge_of N) t) ([] ∷ patches_strips N.n (edge_of N) fs) a.0.1 (tt, strips_all fs a.1)
 
-  faces-one : (fs : List Patch) → Each Fine fs → (t : ℕ) → Each (FaceBelow Z) (faces_or_none N (at fs t))
-  faces-one [] a t = tt
-  faces-one (f ∷ fs) a zero = a.0.0
-  faces-one (f ∷ fs) a (suc t) = faces-one fs a.1 t
+  faces_one : (fs : List Patch) → Each Fine fs → (t : ℕ) → Each (FaceBelow Z) (faces_or_none N (at fs t))
+  faces_one [] a t = tt
+  faces_one (f ∷ fs) a zero = a.0.0
+  faces_one (f ∷ fs) a (suc t) = faces_one fs a.1 t
 
-  strips-one : (fs : List Patch) → Each Fine fs → (t : ℕ) → Each (Each (λ x. x < Z)) (strips_or_none N (at fs t))
-  strips-one [] a t = tt
-  strips-one (f ∷ fs) a zero = a.0.1
-  strips-one (f ∷ fs) a (suc t) = strips-one fs a.1 t
+  strips_one : (fs : List Patch) → Each Fine fs → (t : ℕ) → Each (Each (λ x. x < Z)) (strips_or_none N (at fs t))
+  strips_one [] a t = tt
+  strips_one (f ∷ fs) a zero = a.0.1
+  strips_one (f ∷ fs) a (suc t) = strips_one fs a.1 t
 
   path_below : (u : Use) → Ends P E u → Each (λ x. x < Z) (edge_path N u)
   path_below u d = (
-    point-below u.start d.start<P,
+    point_below u.start d.start<P,
     each-++ (λ x. x < Z) (edge_of N u.edge) (u.stop ∷ []) (each_occ Z (edge_of N u.edge) (λ x c. edge_number x u.edge d.edge<E c))
-        (point-below u.stop d.stop<P, tt),
+        (point_below u.stop d.stop<P, tt),
   )
 
   major_all : (seen : List ℕ) (us : List Use) → Each (Ends P E) us → Each (Each (λ x. x < Z)) (major_from seen N us)
@@ -116,16 +116,16 @@ module _ (P E : ℕ) (ts : List Triangle) (A : Accepted P E ts) (N : Numbering) 
       go true p r = r
       go false p r = (p, r)
 
-pub numbers-below : NumbersAreBelow
-numbers-below P E ts A N R =
+pub numbers_below : NumbersAreBelow
+numbers_below P E ts A N R =
     record {
-      triangle-faces = λ t. numbers N.total (faces_of ts N t) (faces-one P E ts A N I (patches ts N) F t);
-      all-faces = numbers N.total (faces ts N) (faces-all P E ts A N I (patches ts N) F);
-      triangle_lines = λ t. strips-one P E ts A N I (patches ts N) F t;
+      triangle_faces = λ t. numbers N.total (faces_of ts N t) (faces_one P E ts A N I (patches ts N) F t);
+      all_faces = numbers N.total (faces ts N) (faces_all P E ts A N I (patches ts N) F);
+      triangle_lines = λ t. strips_one P E ts A N I (patches ts N) F t;
       major_lines = M;
       all_lines =
           each-++ (Each (λ x. x < N.total)) (patches_strips N.n (edge_of N) (patches ts N)) (major_strips ts N)
-          (strips-all P E ts A N I (patches ts N) F) M;
+          (strips_all P E ts A N I (patches ts N) F) M;
     }
   where
     I : Inv P E (length ts) N
@@ -135,4 +135,4 @@ numbers-below P E ts A N R =
     F = all_fine P E ts A N I [] ts N.contents A.below I.right (λ x c. given_below P E ts A N I x (omega arith))
 
     M : Each (Each (λ x. x < N.total)) (major_strips ts N)
-    M = major_all P E ts A N I [] (uses ts) (uses-ends P E ts A.below A.three)
+    M = major_all P E ts A N I [] (uses ts) (uses_ends P E ts A.below A.three)

@@ -142,7 +142,7 @@ used_twice P E ts A e = go (dec_le 1 (use_count e (uses ts)))
     go (yes c) =
         let o = find e (uses ts) c in
         let v = o.v in
-        let k = two_ways v (uses ts) (λ u i d. A.matching.one-pair u v i o.there d) in
+        let k = two_ways v (uses ts) (λ u i d. A.matching.one_pair u v i o.there d) in
         let x = A.each_way v.edge v.start v.stop in
         let y = A.each_way v.edge v.stop v.start in
         let z : use_count e (uses ts) ≡ use_count v.edge (uses ts) = ap (λ d. use_count d (uses ts)) o.its in
@@ -234,7 +234,7 @@ next_side<3 k = omega arith
 module _ (P E : ℕ) (ts : List Triangle) (A : Accepted P E ts) where
   pub edge_apart :
       (t : Triangle) → ThreeCorners t → ((k : ℕ) → In (use_at t k) (uses ts)) → (k j : ℕ) → k < 3 → j < 3 → (by_side t).edge k ≡ (by_side t).edge j → k ≡ j
-  edge_apart t h i k j a b e = go (A.matching.one-pair (use_at t k) (use_at t j) (i k) (i j) (sym (edge_of_lem t k) ∙ e ∙ edge_of_lem t j))
+  edge_apart t h i k j a b e = go (A.matching.one_pair (use_at t k) (use_at t j) (i k) (i j) (sym (edge_of_lem t k) ∙ e ∙ edge_of_lem t j))
     where
       go : SameEnds (use_at t k) (use_at t j) → k ≡ j
       go (inl x) = corner_apart t h k j a b (start_of t k ∙ x.0 ∙ sym (start_of t j))
@@ -260,7 +260,7 @@ module _ (P E : ℕ) (ts : List Triangle) (A : Accepted P E ts) where
       opposite :
           (k j : ℕ) → k < 3 → j < 3 → (by_side t).edge k ≡ (by_side u).edge j
           → ((by_side t).corner k ≡ (by_side u).corner (next_side j)) × ((by_side t).corner (next_side k) ≡ (by_side u).corner j)
-      opposite k j a b e = go (A.matching.one-pair (use_at t k) (use_at u j) (it k) (iu j) d)
+      opposite k j a b e = go (A.matching.one_pair (use_at t k) (use_at u j) (it k) (iu j) d)
         where
           d : (use_at t k).edge ≡ (use_at u j).edge
           d = sym (edge_of_lem t k) ∙ e ∙ edge_of_lem u j
@@ -273,7 +273,7 @@ module _ (P E : ℕ) (ts : List Triangle) (A : Accepted P E ts) where
       ordered k j a b p q =
           let x : (use_at t k).start ≡ (use_at u j).start = sym (start_of t k) ∙ p ∙ start_of u j in
           let y : (use_at t k).stop ≡ (use_at u j).stop = sym (stop_of t k a) ∙ q ∙ stop_of u j b in
-          not_along k j (A.matching.one-edge (use_at t k) (use_at u j) (it k) (iu j) (inl (x, y))) x y
+          not_along k j (A.matching.one_edge (use_at t k) (use_at u j) (it k) (iu j) (inl (x, y))) x y
 
       corner_in : (k m : ℕ) → m < 3 → (by_side t).corner k ≡ (by_side u).corner m → Corner ((by_side t).corner k) u
       corner_in k zero l e = at_a e
@@ -284,14 +284,14 @@ module _ (P E : ℕ) (ts : List Triangle) (A : Accepted P E ts) where
       met : (k : ℕ) → Meets (by_side t) (by_side u) k → Corner ((by_side t).corner k) u
       met k m = corner_in k m.m m.m<3 m.is
 
-      same-corners : Corner t.a u → Corner t.b u → Corner t.c u → ⊥
-      same-corners p q r =
+      same_corners : Corner t.a u → Corner t.b u → Corner t.c u → ⊥
+      same_corners p q r =
           df (λ x. (λ i. from_corner x u (within t u p q r x (to_corner x t i)), λ i. from_corner x t (cover t u ct p q r x (to_corner x u i))))
 
       differ : (k : ℕ) → k < 3 → Meets (by_side t) (by_side u) k → Meets (by_side t) (by_side u) (next_side k) → Meets (by_side t) (by_side u) (next_side (next_side k)) → ⊥
-      differ zero l x y z = same-corners (met 0 x) (met 1 y) (met 2 z)
-      differ (suc zero) l x y z = same-corners (met 0 z) (met 1 x) (met 2 y)
-      differ (suc (suc zero)) l x y z = same-corners (met 0 y) (met 1 z) (met 2 x)
+      differ zero l x y z = same_corners (met 0 x) (met 1 y) (met 2 z)
+      differ (suc zero) l x y z = same_corners (met 0 z) (met 1 x) (met 2 y)
+      differ (suc (suc zero)) l x y z = same_corners (met 0 y) (met 1 z) (met 2 x)
       differ (suc (suc (suc k))) l x y z = absurd (let z : ⊥ = omega arith in z)
 
       pub beside : Beside (by_side t) (by_side u)

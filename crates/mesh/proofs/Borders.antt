@@ -22,7 +22,7 @@ use Rattle.mesh.proofs.Beside.{in_use_count}
 use Rattle.mesh.proofs.Firsts.{Seen?, old, new, seen?, firsts, laters, first_use_in}
 use Rattle.mesh.proofs.Placed.{patch}
 use Rattle.mesh.proofs.Readings.{Left, first_use_lem, in_u, later_use, next}
-use Rattle.mesh.proofs.Facing.{facing, run_is, path_reverse, backward-is}
+use Rattle.mesh.proofs.Facing.{facing, run_is, path_reverse, backward_is}
 
 -- side u of a triangle with its vertices, in the direction in which the triangle walks it
 abbrev pub run : Numbering → Bool → Use → List ℕ
@@ -32,7 +32,7 @@ abbrev pub runs_from : List ℕ → Numbering → List Use → List (List ℕ)
 runs_from seen N [] = []
 runs_from seen N (u ∷ us) = run N (not (among eqb u.edge seen)) u ∷ runs_from (u.edge ∷ seen) N us
 
-module _ (N : Numbering) (all : List Use) (one-pair : (u v : Use) → In u all → In v all → u.edge ≡ v.edge → SameEnds u v) where
+module _ (N : Numbering) (all : List Use) (one_pair : (u v : Use) → In u all → In v all → u.edge ≡ v.edge → SameEnds u v) where
   module _ (w : Side ℕ → ℕ) where
     -- the weight of an edge's path, forward and backward
     abbrev pub fwd : ℕ → ℕ
@@ -41,25 +41,25 @@ module _ (N : Numbering) (all : List Use) (one-pair : (u v : Use) → In u all �
     abbrev pub bwd : ℕ → ℕ
     bwd e = weigh w (back (path_sides (edge_path N (first_use e all))))
 
-    forward-run : (seen : List ℕ) (u : Use) (us : List Use) → Left all one-pair seen (u ∷ us) → occ u.edge seen ≡ 0 → weigh w (path_sides (edge_path N u)) ≡ fwd u.edge
-    forward-run seen u us L c = ap (λ v. weigh w (path_sides (edge_path N v))) (sym (first_use_lem all one-pair seen u us L c))
+    forward_run : (seen : List ℕ) (u : Use) (us : List Use) → Left all one_pair seen (u ∷ us) → occ u.edge seen ≡ 0 → weigh w (path_sides (edge_path N u)) ≡ fwd u.edge
+    forward_run seen u us L c = ap (λ v. weigh w (path_sides (edge_path N v))) (sym (first_use_lem all one_pair seen u us L c))
 
-    backward-run : (seen : List ℕ) (u : Use) (us : List Use) → Left all one-pair seen (u ∷ us) → 1 ≤ occ u.edge seen → weigh w (path_sides (run N false u)) ≡ bwd u.edge
-    backward-run seen u us L c =
+    backward_run : (seen : List ℕ) (u : Use) (us : List Use) → Left all one_pair seen (u ∷ us) → 1 ≤ occ u.edge seen → weigh w (path_sides (run N false u)) ≡ bwd u.edge
+    backward_run seen u us L c =
         let v : Use = first_use u.edge all in
-        let x = later_use all one-pair seen u us L c in
-        let o = first_use_in u.edge all (in_use_count u all (in_u all one-pair seen u us L)) in
+        let x = later_use all one_pair seen u us L c in
+        let o = first_use_in u.edge all (in_use_count u all (in_u all one_pair seen u us L)) in
         let e : u.stop ∷ (edge_of N u.edge ++ (u.start ∷ [])) ≡ edge_path N v
         = λ i. x.1 i ∷ (edge_of N (sym o.1 i) ++ (x.0 i ∷ [])) in
-        ap (λ l. weigh w (path_sides l)) (backward-is u.start u.stop (edge_of N u.edge))
+        ap (λ l. weigh w (path_sides l)) (backward_is u.start u.stop (edge_of N u.edge))
         ∙ path_reverse w (u.stop ∷ (edge_of N u.edge ++ (u.start ∷ [])))
         ∙ ap (λ l. weigh w (back (path_sides l))) e
 
-    pub runs_weigh : (seen : List ℕ) (us : List Use) → Left all one-pair seen us → weigh w (shown_by (runs_from seen N us)) ≡ weigh fwd (firsts seen us) + weigh bwd (laters seen us)
+    pub runs_weigh : (seen : List ℕ) (us : List Use) → Left all one_pair seen us → weigh w (shown_by (runs_from seen N us)) ≡ weigh fwd (firsts seen us) + weigh bwd (laters seen us)
     runs_weigh seen [] L = refl
     runs_weigh seen (u ∷ us) L =
         weigh-++ w (path_sides (run N (not (among eqb u.edge seen)) u)) (shown_by (runs_from (u.edge ∷ seen) N us))
-        ∙ go (seen? u.edge seen) (runs_weigh (u.edge ∷ seen) us (next all one-pair seen u us L))
+        ∙ go (seen? u.edge seen) (runs_weigh (u.edge ∷ seen) us (next all one_pair seen u us L))
       where
         go :
             Seen? u.edge seen
@@ -68,7 +68,7 @@ module _ (N : Numbering) (all : List Use) (one-pair : (u v : Use) → In u all �
             ≡ weigh fwd (firsts seen (u ∷ us)) + weigh bwd (laters seen (u ∷ us))
         go (old c b) r =
             let a : weigh w (path_sides (run N (not (among eqb u.edge seen)) u)) ≡ bwd u.edge
-            = ap (λ x. weigh w (path_sides (run N (not x) u))) b ∙ backward-run seen u us L c in
+            = ap (λ x. weigh w (path_sides (run N (not x) u))) b ∙ backward_run seen u us L c in
             let f : weigh fwd (firsts seen (u ∷ us)) ≡ weigh fwd (firsts (u.edge ∷ seen) us)
             = ap (λ x. weigh fwd (cond x (firsts (u.edge ∷ seen) us) (u.edge ∷ firsts (u.edge ∷ seen) us))) b in
             let g : weigh bwd (laters seen (u ∷ us)) ≡ bwd u.edge + weigh bwd (laters (u.edge ∷ seen) us)
@@ -76,16 +76,16 @@ module _ (N : Numbering) (all : List Use) (one-pair : (u v : Use) → In u all �
             omega arith
         go (new c b) r =
             let a : weigh w (path_sides (run N (not (among eqb u.edge seen)) u)) ≡ fwd u.edge
-            = ap (λ x. weigh w (path_sides (run N (not x) u))) b ∙ forward-run seen u us L c in
+            = ap (λ x. weigh w (path_sides (run N (not x) u))) b ∙ forward_run seen u us L c in
             let f : weigh fwd (firsts seen (u ∷ us)) ≡ fwd u.edge + weigh fwd (firsts (u.edge ∷ seen) us)
             = ap (λ x. weigh fwd (cond x (firsts (u.edge ∷ seen) us) (u.edge ∷ firsts (u.edge ∷ seen) us))) b in
             let g : weigh bwd (laters seen (u ∷ us)) ≡ weigh bwd (laters (u.edge ∷ seen) us)
             = ap (λ x. weigh bwd (cond x (u.edge ∷ laters (u.edge ∷ seen) us) (laters (u.edge ∷ seen) us))) b in
             omega arith
 
-    pub major_weigh : (seen : List ℕ) (us : List Use) → Left all one-pair seen us → weigh w (shown_by (major_from seen N us)) ≡ weigh fwd (firsts seen us)
+    pub major_weigh : (seen : List ℕ) (us : List Use) → Left all one_pair seen us → weigh w (shown_by (major_from seen N us)) ≡ weigh fwd (firsts seen us)
     major_weigh seen [] L = refl
-    major_weigh seen (u ∷ us) L = go (seen? u.edge seen) (major_weigh (u.edge ∷ seen) us (next all one-pair seen u us L))
+    major_weigh seen (u ∷ us) L = go (seen? u.edge seen) (major_weigh (u.edge ∷ seen) us (next all one_pair seen u us L))
       where
         go :
             Seen? u.edge seen → weigh w (shown_by (major_from (u.edge ∷ seen) N us)) ≡ weigh fwd (firsts (u.edge ∷ seen) us)
@@ -96,7 +96,7 @@ module _ (N : Numbering) (all : List Use) (one-pair : (u v : Use) → In u all �
         go (new c b) r =
             ap (λ x. weigh w (shown_by (unless_seen x (edge_path N u) (major_from (u.edge ∷ seen) N us)))) b
             ∙ weigh-++ w (path_sides (edge_path N u)) (shown_by (major_from (u.edge ∷ seen) N us))
-            ∙ ap₂ (λ x y. x + y) (forward-run seen u us L c) r
+            ∙ ap₂ (λ x y. x + y) (forward_run seen u us L c) r
             ∙ sym (ap (λ x. weigh fwd (cond x (firsts (u.edge ∷ seen) us) (u.edge ∷ firsts (u.edge ∷ seen) us))) b)
 
 -- ---- the borders of the triangles are these runs
@@ -116,9 +116,9 @@ module _ (P E : ℕ) (N : Numbering) (long : (e : ℕ) → e < E → length (edg
     read : (k : ℕ) → (by_side t).edge k < E → up 0 N.n (λ i. reading N.n (edge_of N) (patch seen t g) k i ∷ []) ≡ facing (forward seen t k) (edge_of N ((by_side t).edge k))
     read k l = run_is N.n (edge_of N ((by_side t).edge k)) (forward seen t k) (long ((by_side t).edge k) l)
 
-    border-side : (k : ℕ) (r : List ℕ) → map (patch_vertex N.n (edge_of N) (patch seen t g)) (closed_side N.n k) ≡ r
+    border_side : (k : ℕ) (r : List ℕ) → map (patch_vertex N.n (edge_of N) (patch seen t g)) (closed_side N.n k) ≡ r
         → weigh w (map (map_side (patch_vertex N.n (edge_of N) (patch seen t g))) (path_sides (closed_side N.n k))) ≡ weigh w (path_sides r)
-    border-side k r e =
+    border_side k r e =
         ap (weigh w) (sym (path_sides-map (patch_vertex N.n (edge_of N) (patch seen t g)) (closed_side N.n k))) ∙ ap (λ l. weigh w (path_sides l)) e
 
     three_borders :
@@ -132,13 +132,13 @@ module _ (P E : ℕ) (N : Numbering) (long : (e : ℕ) → e < E → length (edg
         ap (weigh w) (map-append (map_side h) (c 0) (c 1 ++ c 2) ∙ ap (λ l. m 0 ++ l) (map-append (map_side h) (c 1) (c 2)))
         ∙ weigh-++ w (m 0) (m 1 ++ m 2)
         ∙ ap₂ (λ x y. x + y)
-        (border-side 0 (run N (forward seen t 0) (walk t.ab t.a t.b))
+        (border_side 0 (run N (forward seen t 0) (walk t.ab t.a t.b))
         (closed-map h N.n 0 ∙ ap (λ l. t.a ∷ (l ++ (t.b ∷ []))) (read 0 b.ab<E)))
         (weigh-++ w (m 1) (m 2)
         ∙ ap₂ (λ x y. x + y)
-        (border-side 1 (run N (forward seen t 1) (walk t.bc t.b t.c))
+        (border_side 1 (run N (forward seen t 1) (walk t.bc t.b t.c))
         (closed-map h N.n 1 ∙ ap (λ l. t.b ∷ (l ++ (t.c ∷ []))) (read 1 b.bc<E)))
-        (border-side 2 (run N (forward seen t 2) (walk t.ca t.c t.a))
+        (border_side 2 (run N (forward seen t 2) (walk t.ca t.c t.a))
         (closed-map h N.n 2 ∙ ap (λ l. t.c ∷ (l ++ (t.a ∷ []))) (read 2 b.ca<E))))
 
   pub borders_are :

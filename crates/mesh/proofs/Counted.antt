@@ -5,7 +5,7 @@ use Rattle.pattern.proofs.Count.{weigh, weigh-++}
 use Rattle.shape.specs.Lists.{Each}
 use Rattle.mesh.specs.Numbering.{flat, inners, given, VerticesOnce}
 use Rattle.mesh.proofs.Invariant.{Inv, reached_inv}
-use Rattle.pattern.proofs.Occurrences.{occ_alike, range-once, range_in, range_above}
+use Rattle.pattern.proofs.Occurrences.{occ_alike, range_once, range_in, range_above}
 
 abbrev one : ℕ → ℕ
 one x = 1
@@ -27,15 +27,15 @@ edges_size m (l ∷ ls) e =
 square : (m : ℕ) → (m + 3) * (m + 3) ≡ m * m + 6 * m + 9
 square m = omega (arith, mul-add (m + 3) m 3, add-mul m 3 m)
 
-vertices-square : (n : ℕ) (g : NumberedContents) → OfCount n g → weigh one (vertices g) + weigh one (vertices g) + n ≡ n * n
-vertices-square n g of_0 = refl
-vertices-square n g of_1 = refl
-vertices-square n g of_2 = refl
-vertices-square n g of_3 = refl
-vertices-square n g of_4 = refl
-vertices-square n g (of_more {k = k} {sides = sides} {t = t} e r) =
+vertices_square : (n : ℕ) (g : NumberedContents) → OfCount n g → weigh one (vertices g) + weigh one (vertices g) + n ≡ n * n
+vertices_square n g of_0 = refl
+vertices_square n g of_1 = refl
+vertices_square n g of_2 = refl
+vertices_square n g of_3 = refl
+vertices_square n g of_4 = refl
+vertices_square n g (of_more {k = k} {sides = sides} {t = t} e r) =
     let m : ℕ = suc (suc k) in
-    let i = vertices-square m t r in
+    let i = vertices_square m t r in
     let w : suc (suc (suc m)) * suc (suc (suc m)) ≡ (m + 3) * (m + 3) = ap (λ x. x * x) (let z : suc (suc (suc m)) ≡ m + 3 = omega arith in z) in
     omega (arith, weigh-++ one sides (vertices t), length_weigh sides, square m)
 
@@ -48,20 +48,20 @@ half (suc m) s e =
 inners_size : (n : ℕ) (gs : List NumberedContents) → Each (OfCount n) gs → weigh one (inners gs) ≡ length gs * (n * (n - 1) / 2)
 inners_size n [] e = sym (zero-mul (n * (n - 1) / 2))
 inners_size n (g ∷ gs) e =
-    let a : weigh one (vertices g) ≡ n * (n - 1) / 2 = half n (weigh one (vertices g)) (vertices-square n g e.0) in
+    let a : weigh one (vertices g) ≡ n * (n - 1) / 2 = half n (weigh one (vertices g)) (vertices_square n g e.0) in
     let b = inners_size n gs e.1 in
     let c = suc-mul (length gs) (n * (n - 1) / 2) in
     weigh-++ one (vertices g) (inners gs) ∙ ap₂ (λ x y. x + y) a b ∙ (let z : n * (n - 1) / 2 + length gs * (n * (n - 1) / 2) ≡ length gs * (n * (n - 1) / 2) + n * (n - 1) / 2 = omega arith in z) ∙ sym c
 
-pub vertices-once : VerticesOnce
-vertices-once P E ts A N R =
+pub vertices_once : VerticesOnce
+vertices_once P E ts A N R =
     record {
-      total-is = size;
+      total_is = size;
       fits = fit;
       once = λ x l.
           let a : 0 ≤ x = omega arith in
           let b : x < 0 + N.total = omega arith in
-          omega (arith, occ_alike (given P N) (range 0 N.total) I.all x, range-once x 0 N.total, range_in x 0 N.total a b);
+          omega (arith, occ_alike (given P N) (range 0 N.total) I.all x, range_once x 0 N.total, range_in x 0 N.total a b);
       no_other = λ x l.
           let b : 0 + N.total ≤ x = omega arith in
           occ_alike (given P N) (range 0 N.total) I.all x ∙ range_above x 0 N.total b;
@@ -74,7 +74,7 @@ vertices-once P E ts A N R =
     size =
         let a = I.all one in
         let b : N.n * length N.edges ≡ N.n * E = ap (λ x. N.n * x) I.edge_count in
-        let c : length N.contents * (N.n * (N.n - 1) / 2) ≡ length ts * (N.n * (N.n - 1) / 2) = ap (λ x. x * (N.n * (N.n - 1) / 2)) I.contents-count in
+        let c : length N.contents * (N.n * (N.n - 1) / 2) ≡ length ts * (N.n * (N.n - 1) / 2) = ap (λ x. x * (N.n * (N.n - 1) / 2)) I.contents_count in
         omega (
           arith,
           weigh-++ one (range 0 P) (flat N.edges ++ inners N.contents),

@@ -17,14 +17,14 @@ module _ {Y : Type 0} where
 back_at : (x m i : ℕ) (l : List ℕ) → i < m → get_or (x ∷ l) (suc m - suc i) 0 ≡ get_or l (m - suc i) 0
 back_at x m i l h = ap (λ j. get_or (x ∷ l) j 0) (let z : suc m - suc i ≡ suc (m - suc i) = omega arith in z)
 
-back-run : (l : List ℕ) → up 0 (length l) (λ i. get_or l (length l - suc i) 0 ∷ []) ≡ reverse l
-back-run [] = refl
-back-run (x ∷ l) =
+back_run : (l : List ℕ) → up 0 (length l) (λ i. get_or l (length l - suc i) 0 ∷ []) ≡ reverse l
+back_run [] = refl
+back_run (x ∷ l) =
     let m : ℕ = length l in
     let F : ℕ → List ℕ = λ i. get_or (x ∷ l) (suc m - suc i) 0 ∷ [] in
     up-snoc 0 m F
     ∙ ap₂ (λ a b. a ++ b)
-    (up_cong 0 m F (λ i. get_or l (m - suc i) 0 ∷ []) (λ j a b. ap (λ v. v ∷ []) (back_at x m j l (omega arith))) ∙ back-run l)
+    (up_cong 0 m F (λ i. get_or l (m - suc i) 0 ∷ []) (λ j a b. ap (λ v. v ∷ []) (back_at x m j l (omega arith))) ∙ back_run l)
     (ap (λ v. v ∷ []) (ap (λ j. get_or (x ∷ l) j 0) (let z : suc m - suc (0 + m) ≡ 0 = omega arith in z)))
     ∙ sym (reverse-cons x l)
 
@@ -34,7 +34,7 @@ facing b l = cond b l (reverse l)
 -- the vertices of an edge in the order in which a triangle reads them
 pub run_is : (n : ℕ) (l : List ℕ) (b : Bool) → length l ≡ n → up 0 n (λ i. get_or l (turned n b i) 0 ∷ []) ≡ facing b l
 run_is n l true e = ap (λ m. up 0 m (λ i. get_or l i 0 ∷ [])) (sym e) ∙ read_all l
-run_is n l false e = ap (λ m. up 0 m (λ i. get_or l (m - suc i) 0 ∷ [])) (sym e) ∙ back-run l
+run_is n l false e = ap (λ m. up 0 m (λ i. get_or l (m - suc i) 0 ∷ [])) (sym e) ∙ back_run l
 
 pub weigh_facing : (w : ℕ → ℕ) (b : Bool) (l : List ℕ) → weigh w (facing b l) ≡ weigh w l
 weigh_facing w true l = refl
@@ -60,6 +60,6 @@ module _ {Y : Type 0} (w : Side Y → ℕ) where
       let z : weigh w (path_sides (reverse l ++ (y ∷ []))) + w (y, x) ≡ w (y, x) + weigh w (back (path_from y l)) = omega arith in z)
 
 -- from p over an edge's vertices, backward, to q: the other way round than from q over them to p
-pub backward-is : (p q : ℕ) (l : List ℕ) → p ∷ (reverse l ++ (q ∷ [])) ≡ reverse (q ∷ (l ++ (p ∷ [])))
-backward-is p q l =
+pub backward_is : (p q : ℕ) (l : List ℕ) → p ∷ (reverse l ++ (q ∷ [])) ≡ reverse (q ∷ (l ++ (p ∷ [])))
+backward_is p q l =
     sym (reverse-cons q (l ++ (p ∷ [])) ∙ ap (λ m. m ++ (q ∷ [])) (reverse-append l (p ∷ [])))

@@ -140,8 +140,8 @@ module _ (us : List Use) (two : (e : ℕ) → use_count e us ≤ 2) where
       go (isnt x y) = omega (arith, alones_no e us us x)
 
   -- a first use is the only one, or there is one later one
-  first-is : (e : ℕ) → occ e (firsts [] us) ≡ occ e (alones us us ++ laters [] us)
-  first-is e = go (dec_le 1 (use_count e us)) (same? (use_count e us) 1)
+  first_is : (e : ℕ) → occ e (firsts [] us) ≡ occ e (alones us us ++ laters [] us)
+  first_is e = go (dec_le 1 (use_count e us)) (same? (use_count e us) 1)
     where
       s : occ e (alones us us ++ laters [] us) ≡ occ e (alones us us) + occ e (laters [] us)
       s = occ-++ e (alones us us) (laters [] us)
@@ -158,7 +158,7 @@ module _ (us : List Use) (two : (e : ℕ) → use_count e us ≤ 2) where
   pub firsts_weigh : (m : ℕ) → Each (λ u. u.edge < m) us → (g : ℕ → ℕ) → weigh g (firsts [] us) ≡ weigh g (alones us us) + weigh g (laters [] us)
   firsts_weigh m b g =
       same_weight m g (firsts [] us) (alones us us ++ laters [] us) (firsts_below m [] us b)
-      (below-++ m (alones us us) (laters [] us) (alones_below m us us b) (laters_below m [] us b)) first-is
+      (below-++ m (alones us us) (laters [] us) (alones_below m us us b) (laters_below m [] us b)) first_is
       ∙ weigh-++ g (alones us us) (laters [] us)
 
 -- ---- the first use of an edge
@@ -187,10 +187,10 @@ first_use_in e (u ∷ us) h = go (same? e u.edge) (first_use_in e us)
         (inr (subst (λ (v : Use). In v us) (sym (first_use_miss e u us x)) o.0), ap (λ v. v.edge) (first_use_miss e u us x) ∙ o.1)
 
 -- the only use of an edge is its first
-pub first_use-alone : (u : Use) (us : List Use) → In u us → use_count u.edge us ≡ 1 → first_use u.edge us ≡ u
-first_use-alone u [] i c = absurd i
-first_use-alone u (v ∷ us) (inl e) c = first_use_hit u.edge v us (ap (λ x. x.edge) e) ∙ sym e
-first_use-alone u (v ∷ us) (inr i) c = go (same? u.edge v.edge) (first_use-alone u us i)
+pub first_use_alone : (u : Use) (us : List Use) → In u us → use_count u.edge us ≡ 1 → first_use u.edge us ≡ u
+first_use_alone u [] i c = absurd i
+first_use_alone u (v ∷ us) (inl e) c = first_use_hit u.edge v us (ap (λ x. x.edge) e) ∙ sym e
+first_use_alone u (v ∷ us) (inr i) c = go (same? u.edge v.edge) (first_use_alone u us i)
   where
     go : Same? u.edge v.edge → (use_count u.edge us ≡ 1 → first_use u.edge us ≡ u) → first_use u.edge (v ∷ us) ≡ u
     go (is x y) r = absurd (let z : ⊥ = omega (arith, use_count-cons u.edge v us, hits_yes u.edge v.edge x, in_use_count u us i) in z)

@@ -14,7 +14,7 @@ use Rattle.pattern.proofs.Occurrences.{range-++}
 pub record Inv (P E T : ℕ) (N : Numbering) : Type 0 where
   pub small : N.n ≤ 12
   pub edge_count : length N.edges ≡ E
-  pub contents-count : length N.contents ≡ T
+  pub contents_count : length N.contents ≡ T
   pub long : Each (λ l. length l ≡ N.n) N.edges
   pub right : Each (OfCount N.n) N.contents
   pub all : Alike (given P N) (range 0 N.total)
@@ -47,23 +47,23 @@ edges_fresh h a (l ∷ ls) w =
       weigh-++ w (range h a) (range (h + a) (a * length ls)),
     )
 
-edges-long : (h a n : ℕ) (ls : List (List ℕ)) → Each (λ l. length l ≡ n) ls → Each (λ l. length l ≡ n + a) (lengthened h a ls)
-edges-long h a n [] e = tt
-edges-long h a n (l ∷ ls) e =
-    (length-append l (range h a) ∙ ap₂ (λ x y. x + y) e.0 (length_range h a), edges-long (h + a) a n ls e.1)
+edges_long : (h a n : ℕ) (ls : List (List ℕ)) → Each (λ l. length l ≡ n) ls → Each (λ l. length l ≡ n + a) (lengthened h a ls)
+edges_long h a n [] e = tt
+edges_long h a n (l ∷ ls) e =
+    (length-append l (range h a) ∙ ap₂ (λ x y. x + y) e.0 (length_range h a), edges_long (h + a) a n ls e.1)
 
 edges_many : (h a : ℕ) (ls : List (List ℕ)) → length (lengthened h a ls) ≡ length ls
 edges_many h a [] = refl
 edges_many h a (l ∷ ls) = ap suc (edges_many (h + a) a ls)
 
 -- ---- contents
-after-up : (h k : ℕ) (g : NumberedContents) → h ≤ after h k g
-after-up h zero g = omega arith
-after-up h (suc k) g = omega (arith, after-up (h + taken g) k (step h g))
+after_up : (h k : ℕ) (g : NumberedContents) → h ≤ after h k g
+after_up h zero g = omega arith
+after_up h (suc k) g = omega (arith, after_up (h + taken g) k (step h g))
 
-after_all-up : (h k : ℕ) (gs : List NumberedContents) → h ≤ after_all h k gs
-after_all-up h k [] = omega arith
-after_all-up h k (g ∷ gs) = omega (arith, after-up h k g, after_all-up (after h k g) k gs)
+after_all_up : (h k : ℕ) (gs : List NumberedContents) → h ≤ after_all h k gs
+after_all_up h k [] = omega arith
+after_all_up h k (g ∷ gs) = omega (arith, after_up h k g, after_all_up (after h k g) k gs)
 
 nothing : (h : ℕ) (w : ℕ → ℕ) → weigh w (range h (h - h)) ≡ 0
 nothing h w = ap (λ j. weigh w (range h j)) (let z : h - h ≡ 0 = omega arith in z)
@@ -75,7 +75,7 @@ stepped_fresh h (suc k) g w =
     let le : h ≤ m = omega arith in
     let r = stepped_fresh m k (step h g) w in
     let s = step_fresh h g w in
-    let j = join_ranges h m (after m k (step h g)) le (after-up m k (step h g)) w in
+    let j = join_ranges h m (after m k (step h g)) le (after_up m k (step h g)) w in
     let e : weigh w (range h (m - h)) ≡ weigh w (range h (taken g)) = ap (λ i. weigh w (range h i)) (let z : h + taken g - h ≡ taken g = omega arith in z) in
     omega (arith, weigh-++ w (vertices g) (range h (taken g)))
 
@@ -85,7 +85,7 @@ all_fresh h k (g ∷ gs) w =
     let m : ℕ = after h k g in
     let r = all_fresh m k gs w in
     let s = stepped_fresh h k g w in
-    let j = join_ranges h m (after_all m k gs) (after-up h k g) (after_all-up m k gs) w in
+    let j = join_ranges h m (after_all m k gs) (after_up h k g) (after_all_up m k gs) w in
     omega (arith, weigh-++ w (vertices (stepped h k g)) (inners (all_stepped m k gs)), weigh-++ w (vertices g) (inners gs))
 
 all_many : (h k : ℕ) (gs : List NumberedContents) → length (all_stepped h k gs) ≡ length gs
@@ -122,12 +122,12 @@ grown_inv P E T N a le I =
     let h : ℕ = N.total + a * length N.edges in
     let k : ℕ = steps_for N.n a in
     let m : ℕ = after_all h k N.contents in
-    let up : h ≤ m = after_all-up h k N.contents in
+    let up : h ≤ m = after_all_up h k N.contents in
     record {
       small = le;
       edge_count = edges_many N.total a N.edges ∙ I.edge_count;
-      contents-count = all_many h k N.contents ∙ I.contents-count;
-      long = edges-long N.total a N.n N.edges I.long;
+      contents_count = all_many h k N.contents ∙ I.contents_count;
+      long = edges_long N.total a N.n N.edges I.long;
       right = all_right h a N.n N.contents I.right;
       all = λ w.
           let b = I.all w in
@@ -176,7 +176,7 @@ bare_inv P E T =
     record {
       small = omega arith;
       edge_count = length-replicate E [];
-      contents-count = length-replicate T None;
+      contents_count = length-replicate T None;
       long = bare_long E;
       right = bare_right T;
       all = λ w.
@@ -189,8 +189,8 @@ bare_inv P E T =
           );
     }
 
-pub made-is : (P E T n : ℕ) → grown n (bare P E T) ≡ made P E T n
-made-is P E T n =
+pub made_is : (P E T n : ℕ) → grown n (bare P E T) ≡ made P E T n
+made_is P E T n =
     λ i. record {
       n = zero-add n i;
       total = after_all (P + n * length-replicate {A = List ℕ} E [] i) (n - 1) (replicate T None);
@@ -200,6 +200,6 @@ made-is P E T n =
 
 pub reached_inv : (P E : ℕ) (ts : List Triangle) (N : Numbering) → Reached P E ts N → Inv P E (length ts) N
 reached_inv P E ts N (making n le) =
-    subst (Inv P E (length ts)) (made-is P E (length ts) n)
+    subst (Inv P E (length ts)) (made_is P E (length ts) n)
     (grown_inv P E (length ts) (bare P E (length ts)) n (let z : 0 + n ≤ 12 = omega arith in z) (bare_inv P E (length ts)))
 reached_inv P E ts N (subdividing {N = M} a r le) = grown_inv P E (length ts) M a le (reached_inv P E ts M r)

@@ -17,12 +17,12 @@ use Rattle.mesh.proofs.Beside.{use_at, edge_of_lem, in_uses, use_count-cons, in_
 use Rattle.mesh.proofs.Invariant.{Inv}
 use Rattle.mesh.proofs.Facing.{facing, run_is, weigh_facing}
 use Rattle.mesh.proofs.Sum.{sum_to, at_most_all, flat-sum}
-use Rattle.pattern.proofs.Occurrences.{distinct_two, distinct_three, in_below, among_no, among_yes, hits, hits_yes, hits_no, Same?, is, isnt, same?, occ-cons, occ_weigh, occ-++, occ_alike, occ_get_d, get_d_apart, range-once, range_in}
+use Rattle.pattern.proofs.Occurrences.{distinct_two, distinct_three, in_below, among_no, among_yes, hits, hits_yes, hits_no, Same?, is, isnt, same?, occ-cons, occ_weigh, occ-++, occ_alike, occ_get_d, get_d_apart, range_once, range_in}
 
-long-at : (m : ℕ) (ls : List (List ℕ)) → Each (λ l. length l ≡ m) ls → (e : ℕ) → e < length ls → length (get_or ls e []) ≡ m
-long-at m [] h e l = absurd (let z : ⊥ = omega arith in z)
-long-at m (x ∷ ls) h zero l = h.0
-long-at m (x ∷ ls) h (suc e) l = long-at m ls h.1 e (omega arith)
+long_at : (m : ℕ) (ls : List (List ℕ)) → Each (λ l. length l ≡ m) ls → (e : ℕ) → e < length ls → length (get_or ls e []) ≡ m
+long_at m [] h e l = absurd (let z : ⊥ = omega arith in z)
+long_at m (x ∷ ls) h zero l = h.0
+long_at m (x ∷ ls) h (suc e) l = long_at m ls h.1 e (omega arith)
 
 -- ---- which way a triangle reads
 abbrev pub Edges3 : Triangle → Type 0
@@ -59,29 +59,29 @@ forward_no seen t (suc (suc zero)) l e =
 forward_no seen t (suc (suc (suc k))) l e = absurd (let z : ⊥ = omega arith in z)
 
 -- ---- below the bounds
-pub corner-below : (P E : ℕ) (t : Triangle) → Below P E t → (k : ℕ) → (by_side t).corner k < P
-corner-below P E t b zero = b.a<P
-corner-below P E t b (suc zero) = b.b<P
-corner-below P E t b (suc (suc k)) = b.c<P
+pub corner_below : (P E : ℕ) (t : Triangle) → Below P E t → (k : ℕ) → (by_side t).corner k < P
+corner_below P E t b zero = b.a<P
+corner_below P E t b (suc zero) = b.b<P
+corner_below P E t b (suc (suc k)) = b.c<P
 
-pub edge-below : (P E : ℕ) (t : Triangle) → Below P E t → (k : ℕ) → (by_side t).edge k < E
-edge-below P E t b zero = b.ab<E
-edge-below P E t b (suc zero) = b.bc<E
-edge-below P E t b (suc (suc k)) = b.ca<E
+pub edge_below : (P E : ℕ) (t : Triangle) → Below P E t → (k : ℕ) → (by_side t).edge k < E
+edge_below P E t b zero = b.ab<E
+edge_below P E t b (suc zero) = b.bc<E
+edge_below P E t b (suc (suc k)) = b.ca<E
 
 abbrev pub patch : List ℕ → Triangle → NumberedContents → Patch
 patch seen t g = record { tri = by_side t; forth = forward seen t; inner = g }
 
 module _ (P E : ℕ) (ts : List Triangle) (A : Accepted P E ts) (N : Numbering) (I : Inv P E (length ts) N) where
-  pub edge-long : (e : ℕ) → e < E → length (edge_of N e) ≡ N.n
-  edge-long e l = long-at N.n N.edges I.long e (let d = I.edge_count in let z : e < length N.edges = omega arith in z)
+  pub edge_long : (e : ℕ) → e < E → length (edge_of N e) ≡ N.n
+  edge_long e l = long_at N.n N.edges I.long e (let d = I.edge_count in let z : e < length N.edges = omega arith in z)
 
   pub all_once : (x : ℕ) → occ x (range 0 P) + occ x (flat N.edges) + occ x (inners N.contents) ≤ 1
   all_once x =
       omega (
         arith,
         occ_alike (range 0 P ++ (flat N.edges ++ inners N.contents)) (range 0 N.total) I.all x,
-        range-once x 0 N.total,
+        range_once x 0 N.total,
         occ-++ x (range 0 P) (flat N.edges ++ inners N.contents),
         occ-++ x (flat N.edges) (inners N.contents),
       )
@@ -94,8 +94,8 @@ module _ (P E : ℕ) (ts : List Triangle) (A : Accepted P E ts) (N : Numbering) 
       let d : sum_to (length N.edges) (λ e. occ x (edge_of N e)) ≡ sum_to E (λ e. occ x (edge_of N e)) = ap (λ m. sum_to m (λ e. occ x (edge_of N e))) I.edge_count in
       omega arith
 
-  pub one-edge : (x e : ℕ) → e < E → occ x (edge_of N e) ≤ occ x (flat N.edges)
-  one-edge x e l = omega (arith, some_edges x (e ∷ []) (l, tt) (λ y. single y))
+  pub one_edge : (x e : ℕ) → e < E → occ x (edge_of N e) ≤ occ x (flat N.edges)
+  one_edge x e l = omega (arith, some_edges x (e ∷ []) (l, tt) (λ y. single y))
     where
       below : (b : Bool) → tick b 0 ≤ 1
       below true = omega arith
@@ -109,7 +109,7 @@ module _ (P E : ℕ) (ts : List Triangle) (A : Accepted P E ts) (N : Numbering) 
 
   -- ---- numbers on an edge
   pub on_edge : (e i : ℕ) → e < E → i < N.n → 1 ≤ occ (get_or (edge_of N e) i 0) (edge_of N e)
-  on_edge e i l h = occ_get_d (edge_of N e) i (let d = edge-long e l in let z : i < length (edge_of N e) = omega arith in z)
+  on_edge e i l h = occ_get_d (edge_of N e) i (let d = edge_long e l in let z : i < length (edge_of N e) = omega arith in z)
 
   low : (x : ℕ) → x < P → 1 ≤ occ x (range 0 P)
   low x l = range_in x 0 P (omega arith) (omega arith)
@@ -125,7 +125,7 @@ module _ (P E : ℕ) (ts : List Triangle) (A : Accepted P E ts) (N : Numbering) 
   edge_high e i l h =
       let x : ℕ = get_or (edge_of N e) i 0 in
       let a = on_edge e i l h in
-      let b = one-edge x e l in
+      let b = one_edge x e l in
       high x (omega arith)
 
   edges_apart : (e i d j : ℕ) → e < E → d < E → i < N.n → j < N.n → get_or (edge_of N e) i 0 ≡ get_or (edge_of N d) j 0 → (e ≡ d) × (i ≡ j)
@@ -140,24 +140,24 @@ module _ (P E : ℕ) (ts : List Triangle) (A : Accepted P E ts) (N : Numbering) 
       go : Same? e d → (e ≡ d) × (i ≡ j)
       go (is s y) = (
         s,
-        get_d_apart (edge_of N e) (λ z. omega (arith, one-edge z e l, all_once z)) i j
-            (let c = edge-long e l in omega arith) (let c = edge-long e l in omega arith)
+        get_d_apart (edge_of N e) (λ z. omega (arith, one_edge z e l, all_once z)) i j
+            (let c = edge_long e l in omega arith) (let c = edge_long e l in omega arith)
             (q ∙ ap (λ f. get_or (edge_of N f) j 0) (sym s)),
       )
       go (isnt s y) =
           absurd (let z : ⊥ = omega (arith, a, b, two_edges (get_or (edge_of N d) j 0) e d l m s, all_once (get_or (edge_of N d) j 0)) in z)
 
   -- ---- one triangle
-  pub run-occ : (seen : List ℕ) (t : Triangle) (g : NumberedContents) (k : ℕ) → (by_side t).edge k < E → (x : ℕ)
+  pub run_occ : (seen : List ℕ) (t : Triangle) (g : NumberedContents) (k : ℕ) → (by_side t).edge k < E → (x : ℕ)
       → occ x (up 0 N.n (λ i. reading N.n (edge_of N) (patch seen t g) k i ∷ [])) ≡ occ x (edge_of N ((by_side t).edge k))
-  run-occ seen t g k l x =
-      ap (occ x) (run_is N.n (edge_of N ((by_side t).edge k)) (forward seen t k) (edge-long ((by_side t).edge k) l))
+  run_occ seen t g k l x =
+      ap (occ x) (run_is N.n (edge_of N ((by_side t).edge k)) (forward seen t k) (edge_long ((by_side t).edge k) l))
       ∙ occ_weigh x (facing (forward seen t k) (edge_of N ((by_side t).edge k)))
       ∙ weigh_facing (hits x) (forward seen t k) (edge_of N ((by_side t).edge k))
       ∙ sym (occ_weigh x (edge_of N ((by_side t).edge k)))
 
-  corners-occ : (t : Triangle) → Below P E t → ThreeCorners t → (x : ℕ) → occ x (t.a ∷ t.b ∷ t.c ∷ []) ≤ occ x (range 0 P)
-  corners-occ t b c x = go (dec_le 1 (occ x (t.a ∷ t.b ∷ t.c ∷ [])))
+  corners_occ : (t : Triangle) → Below P E t → ThreeCorners t → (x : ℕ) → occ x (t.a ∷ t.b ∷ t.c ∷ []) ≤ occ x (range 0 P)
+  corners_occ t b c x = go (dec_le 1 (occ x (t.a ∷ t.b ∷ t.c ∷ [])))
     where
       go : Dec (1 ≤ occ x (t.a ∷ t.b ∷ t.c ∷ [])) → occ x (t.a ∷ t.b ∷ t.c ∷ []) ≤ occ x (range 0 P)
       go (yes h) =
@@ -174,12 +174,12 @@ module _ (P E : ℕ) (ts : List Triangle) (A : Accepted P E ts) (N : Numbering) 
       omega (
         arith,
         h x,
-        corners-occ t b c x,
+        corners_occ t b c x,
         some_edges x (t.ab ∷ t.bc ∷ t.ca ∷ []) (b.ab<E, (b.bc<E, (b.ca<E, tt)))
             (distinct_three t.ab t.bc t.ca (not_ab_bc t e3) (not_bc_ca t e3) (not_ca_ab t e3)),
-        run-occ seen t g 0 b.ab<E x,
-        run-occ seen t g 1 b.bc<E x,
-        run-occ seen t g 2 b.ca<E x,
+        run_occ seen t g 0 b.ab<E x,
+        run_occ seen t g 1 b.bc<E x,
+        run_occ seen t g 2 b.ca<E x,
         occ-++ x (ring_list N.n t.a t.b t.c (reading N.n (edge_of N) (patch seen t g) 0) (reading N.n (edge_of N) (patch seen t g) 1) (reading N.n (edge_of N) (patch seen t g) 2)) (vertices g),
         occ-++ x (t.a ∷ t.b ∷ t.c ∷ []) M,
         occ-++ x (r 0) (r 1 ++ r 2),
@@ -189,8 +189,8 @@ module _ (P E : ℕ) (ts : List Triangle) (A : Accepted P E ts) (N : Numbering) 
   -- ---- two triangles: t, and u among those after it
   record Ahead (t : Triangle) (g : NumberedContents) (seen : List ℕ) (us : List Triangle) (gs : List NumberedContents) (later : List ℕ) : Type 0 where
     pub in_t : (k : ℕ) → In (use_at t k) (uses ts)
-    pub three-t : ThreeCorners t
-    pub below-t : Below P E t
+    pub three_t : ThreeCorners t
+    pub below_t : Below P E t
     pub right_t : OfCount N.n g
     pub in_us : (v : Use) → In v (uses us) → In v (uses ts)
     pub three_us : Each ThreeCorners us
@@ -222,16 +222,16 @@ module _ (P E : ℕ) (ts : List Triangle) (A : Accepted P E ts) (N : Numbering) 
         go (yes l) = l
         go (no l) = absurd (let m : x < P = omega arith in let z : ⊥ = omega (arith, here_apart x, low x m) in z)
 
-    edge-t : (k : ℕ) → (by_side t).edge k < E
-    edge-t k = edge-below P E t H.below-t k
+    edge_t : (k : ℕ) → (by_side t).edge k < E
+    edge_t k = edge_below P E t H.below_t k
 
-    edge-u : (k : ℕ) → (by_side u).edge k < E
-    edge-u k = edge-below P E u H.below_us.0 k
+    edge_u : (k : ℕ) → (by_side u).edge k < E
+    edge_u k = edge_below P E u H.below_us.0 k
 
     not_within : (e i : ℕ) → e < E → i < N.n → 1 ≤ occ (get_or (edge_of N e) i 0) (vertices g) + occ (get_or (edge_of N e) i 0) (vertices h) → ⊥
     not_within e i l m c =
         let x : ℕ = get_or (edge_of N e) i 0 in
-        omega (arith, on_edge e i l m, one-edge x e l, here_apart x)
+        omega (arith, on_edge e i l m, one_edge x e l, here_apart x)
 
     against : (k j : ℕ) → k < 3 → j < 3 → (by_side t).edge k ≡ (by_side u).edge j → (forward seen t k ≡ true) × (forward later u j ≡ false)
     against k j a b e =
@@ -239,7 +239,7 @@ module _ (P E : ℕ) (ts : List Triangle) (A : Accepted P E ts) (N : Numbering) 
         let y = used_here u j in
         let z : use_count ((by_side u).edge j) (uses (u ∷ [])) ≡ use_count ((by_side t).edge k) (uses (u ∷ [])) = ap (λ d. use_count d (uses (u ∷ []))) (sym e) in
         let none : occ ((by_side t).edge k) seen ≡ 0 = omega (arith, H.few ((by_side t).edge k), use_count_split ((by_side t).edge k) u us) in (
-          forward_yes seen t (edge_apart P E ts A t H.three-t H.in_t) k a none,
+          forward_yes seen t (edge_apart P E ts A t H.three_t H.in_t) k a none,
           forward_no later u j b (subst (λ (d : ℕ). 1 ≤ occ d later) e (H.seen_t k)),
         )
 
@@ -247,19 +247,19 @@ module _ (P E : ℕ) (ts : List Triangle) (A : Accepted P E ts) (N : Numbering) 
     placed =
         record {
           beside =
-              beside P E ts A t u H.in_t in_u H.three-t H.three_us.0
+              beside P E ts A t u H.in_t in_u H.three_t H.three_us.0
               (λ e p q. omega (arith, H.way e p q, way_count_split e p q u us)) H.dif.0;
           right_t = H.right_t;
           right_u = H.right_gs.0;
-          point-t = λ k l. corner-below P E t H.below-t k;
-          point-u = λ k l. corner-below P E u H.below_us.0 k;
-          edge_high_t = λ k i l m. edge_high ((by_side t).edge k) i (edge-t k) m;
-          edge_high_u = λ k i l m. edge_high ((by_side u).edge k) i (edge-u k) m;
+          point_t = λ k l. corner_below P E t H.below_t k;
+          point_u = λ k l. corner_below P E u H.below_us.0 k;
+          edge_high_t = λ k i l m. edge_high ((by_side t).edge k) i (edge_t k) m;
+          edge_high_u = λ k i l m. edge_high ((by_side u).edge k) i (edge_u k) m;
           inner_high_t = λ x c. high_vertex x (omega arith);
           inner_high_u = λ x c. high_vertex x (omega arith);
-          edges_apart = λ k i l j a b c d e. edges_apart ((by_side t).edge k) i ((by_side u).edge l) j (edge-t k) (edge-u l) c d e;
-          edge-inner_t = λ k i a b c. not_within ((by_side u).edge k) i (edge-u k) b (omega arith);
-          edge-inner_u = λ k i a b c. not_within ((by_side t).edge k) i (edge-t k) b (omega arith);
+          edges_apart = λ k i l j a b c d e. edges_apart ((by_side t).edge k) i ((by_side u).edge l) j (edge_t k) (edge_u l) c d e;
+          edge_inner_t = λ k i a b c. not_within ((by_side u).edge k) i (edge_u k) b (omega arith);
+          edge_inner_u = λ k i a b c. not_within ((by_side t).edge k) i (edge_t k) b (omega arith);
           inner_apart = λ x a b. omega (arith, here_apart x);
           against = λ k j a b e. inl (against k j a b e);
         }
@@ -268,8 +268,8 @@ module _ (P E : ℕ) (ts : List Triangle) (A : Accepted P E ts) (N : Numbering) 
     next =
         record {
           in_t = H.in_t;
-          three-t = H.three-t;
-          below-t = H.below-t;
+          three_t = H.three_t;
+          below_t = H.below_t;
           right_t = H.right_t;
           in_us = λ v i. H.in_us v (inr (inr (inr i)));
           three_us = H.three_us.1;
@@ -289,13 +289,13 @@ module _ (P E : ℕ) (ts : List Triangle) (A : Accepted P E ts) (N : Numbering) 
           few = λ e. omega (arith, H.few e, use_count_split e u us);
         }
 
-  placed-all :
+  placed_all :
       (t : Triangle) (g : NumberedContents) (seen : List ℕ) (us : List Triangle) (gs : List NumberedContents) (later : List ℕ) → Ahead t g seen us gs later
       → PlacedAll N.n P (edge_of N) (patch seen t g) (patches_from later us gs)
-  placed-all t g seen [] gs later H = tt
-  placed-all t g seen (u ∷ us) [] later H = tt
-  placed-all t g seen (u ∷ us) (h ∷ gs) later H =
-      (placed t g seen u us h gs later H, placed-all t g seen us gs (u.ca ∷ u.bc ∷ u.ab ∷ later) (next t g seen u us h gs later H))
+  placed_all t g seen [] gs later H = tt
+  placed_all t g seen (u ∷ us) [] later H = tt
+  placed_all t g seen (u ∷ us) (h ∷ gs) later H =
+      (placed t g seen u us h gs later H, placed_all t g seen us gs (u.ca ∷ u.bc ∷ u.ab ∷ later) (next t g seen u us h gs later H))
 
   -- ---- all of them
   pub record Rest (seen : List ℕ) (us : List Triangle) (gs : List NumberedContents) : Type 0 where
@@ -329,8 +329,8 @@ module _ (P E : ℕ) (ts : List Triangle) (A : Accepted P E ts) (N : Numbering) 
     ahead =
         record {
           in_t = λ k. H.in_us (use_at t k) (in_uses t us k);
-          three-t = H.three_us.0;
-          below-t = H.below_us.0;
+          three_t = H.three_us.0;
+          below_t = H.below_us.0;
           right_t = H.right_gs.0;
           in_us = λ v i. H.in_us v (inr (inr (inr i)));
           three_us = H.three_us.1;
@@ -374,7 +374,7 @@ module _ (P E : ℕ) (ts : List Triangle) (A : Accepted P E ts) (N : Numbering) 
   rest_placed seen (t ∷ us) [] H = tt
   rest_placed seen (t ∷ us) (g ∷ gs) H = (
     (H.right_gs.0, alone seen t g H.below_us.0 H.three_us.0 (edges3 seen t us g gs H) (own_apart seen t us g gs H)),
-    placed-all t g seen us gs (t.ca ∷ t.bc ∷ t.ab ∷ seen) (ahead seen t us g gs H),
+    placed_all t g seen us gs (t.ca ∷ t.bc ∷ t.ab ∷ seen) (ahead seen t us g gs H),
     rest_placed (t.ca ∷ t.bc ∷ t.ab ∷ seen) us gs (rest seen t us g gs H),
   )
 

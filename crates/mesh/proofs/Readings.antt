@@ -12,7 +12,7 @@ use Rattle.mesh.proofs.Firsts.{Seen?, old, new, seen?, first_use_hit, first_use_
 use Rattle.mesh.proofs.Placed.{patch}
 use Rattle.pattern.proofs.Occurrences.{hits_yes, hits_no, eqb_yes, eqb_no, Same?, is, isnt, same?, occ-cons}
 
-module _ (all : List Use) (one-pair : (u v : Use) → In u all → In v all → u.edge ≡ v.edge → SameEnds u v) where
+module _ (all : List Use) (one_pair : (u v : Use) → In u all → In v all → u.edge ≡ v.edge → SameEnds u v) where
   -- what holds of the uses that are left, where the edges of the others were seen
   pub record Left (seen : List ℕ) (us : List Use) : Type 0 where
     pub in_all : (u : Use) → In u us → In u all
@@ -28,7 +28,7 @@ module _ (all : List Use) (one-pair : (u v : Use) → In u all → In v all → 
     in_u = L.in_all u (inl refl)
 
     pub later_use : 1 ≤ occ u.edge seen → (u.start ≡ (first_use u.edge all).stop) × (u.stop ≡ (first_use u.edge all).start)
-    later_use c = go (one-pair u (first_use u.edge all) in_u o.0 (sym o.1))
+    later_use c = go (one_pair u (first_use u.edge all) in_u o.0 (sym o.1))
       where
         o : In (first_use u.edge all) all × ((first_use u.edge all).edge ≡ u.edge)
         o = first_use_in u.edge all (in_use_count u all in_u)
@@ -89,7 +89,7 @@ module _ (ts : List Triangle) where
   by_side seen t g x y z (suc (suc (suc k))) l = absurd (let w : ⊥ = omega arith in w)
 
 module _ (P E : ℕ) (ts : List Triangle) (A : Accepted P E ts) where
-  pub left : Left (uses ts) A.matching.one-pair [] (uses ts)
+  pub left : Left (uses ts) A.matching.one_pair [] (uses ts)
   left =
       record {
         in_all = λ u i. i;
@@ -100,7 +100,7 @@ module _ (P E : ℕ) (ts : List Triangle) (A : Accepted P E ts) where
 
   pub reads_from :
       (seen : List ℕ) (us : List Triangle) (gs : List NumberedContents) → Each ThreeCorners us
-      → Left (uses ts) A.matching.one-pair seen (uses us) → Each (Reads ts) (patches_from seen us gs)
+      → Left (uses ts) A.matching.one_pair seen (uses us) → Each (Reads ts) (patches_from seen us gs)
   reads_from seen [] gs d L = tt
   reads_from seen (t ∷ us) [] d L = tt
   reads_from seen (t ∷ us) (g ∷ gs) d L =
@@ -108,13 +108,13 @@ module _ (P E : ℕ) (ts : List Triangle) (A : Accepted P E ts) where
       let u0 : Use = walk t.ab t.a t.b in
       let u1 : Use = walk t.bc t.b t.c in
       let u2 : Use = walk t.ca t.c t.a in
-      let L1 = next all A.matching.one-pair seen u0 (u1 ∷ u2 ∷ uses us) L in
-      let L2 = next all A.matching.one-pair (t.ab ∷ seen) u1 (u2 ∷ uses us) L1 in
-      let L3 = next all A.matching.one-pair (t.bc ∷ t.ab ∷ seen) u2 (uses us) L2 in (
+      let L1 = next all A.matching.one_pair seen u0 (u1 ∷ u2 ∷ uses us) L in
+      let L2 = next all A.matching.one_pair (t.ab ∷ seen) u1 (u2 ∷ uses us) L1 in
+      let L3 = next all A.matching.one_pair (t.bc ∷ t.ab ∷ seen) u2 (uses us) L2 in (
         by_side ts seen t g
-            (reads all A.matching.one-pair seen u0 (u1 ∷ u2 ∷ uses us) L d.0.ab)
-            (reads all A.matching.one-pair (t.ab ∷ seen) u1 (u2 ∷ uses us) L1 d.0.bc)
-            (reads all A.matching.one-pair (t.bc ∷ t.ab ∷ seen) u2 (uses us) L2 d.0.ca),
+            (reads all A.matching.one_pair seen u0 (u1 ∷ u2 ∷ uses us) L d.0.ab)
+            (reads all A.matching.one_pair (t.ab ∷ seen) u1 (u2 ∷ uses us) L1 d.0.bc)
+            (reads all A.matching.one_pair (t.bc ∷ t.ab ∷ seen) u2 (uses us) L2 d.0.ca),
         reads_from (t.ca ∷ t.bc ∷ t.ab ∷ seen) us gs d.1 L3,
       )
 

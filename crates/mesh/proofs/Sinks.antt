@@ -3,20 +3,20 @@ use Rattle.std.proofs.Common.{◌≡◌, ℕ, suc, ◌+◌, T, List, [], ◌∷�
 use Rattle.pattern.specs.Amounts.{lengths}
 use Rattle.mesh.specs.Sinks.{Sink, Writes, nothing, a_number, a_break, closed_after, last_after, Written, NeverFull, SinksFilled}
 
-nothing-taken : (s : Sink) (p b : ℕ) → T (s.takes (0 + p) (0 + b)) → T (s.takes p b)
-nothing-taken s p b t =
+nothing_taken : (s : Sink) (p b : ℕ) → T (s.takes (0 + p) (0 + b)) → T (s.takes p b)
+nothing_taken s p b t =
     subst (λ (k : ℕ). T (s.takes k b)) (zero-add p) (subst (λ (k : ℕ). T (s.takes (0 + p) k)) (zero-add b) t)
 
 written : (ls : List (List ℕ)) (s s' : Sink) → Writes ls s s' → Written ls s s'
-written ls s s' nothing = record { closed_is = sym (append-nil s.closed); last-is = refl; takes_still = λ p b t. nothing-taken s p b t }
+written ls s s' nothing = record { closed_is = sym (append-nil s.closed); last_is = refl; takes_still = λ p b t. nothing_taken s p b t }
 written ls s s'' (a_number {x = x} {l = l} {ls = ms} {s' = s'} u w) =
     let r = written (l ∷ ms) s' s'' w in
     record {
       closed_is =
           r.closed_is
-          ∙ ap₂ (λ c o. c ++ ((o ++ l) ∷ ms)) u.closed_is u.last-is
+          ∙ ap₂ (λ c o. c ++ ((o ++ l) ∷ ms)) u.closed_is u.last_is
           ∙ ap (λ o. s.closed ++ (o ∷ ms)) (append_assoc s.last (x ∷ []) l);
-      last-is = r.last-is;
+      last_is = r.last_is;
       takes_still = λ p b t. r.takes_still p b (u.takes_still (length l + lengths ms + p) (length (l ∷ ms) + b)
           (subst (λ (k : ℕ). T (s.takes k (length (l ∷ ms) + b))) (let z : suc (length l) + lengths ms + p ≡ suc (length l + lengths ms + p) = omega arith in z) t));
     }
@@ -24,10 +24,10 @@ written ls s s'' (a_break {ls = ms} {s' = s'} u w) =
     let r = written ms s' s'' w in
     record {
       closed_is =
-          r.closed_is ∙ ap₂ (λ c o. c ++ closed_after o ms) u.closed_is u.last-is
+          r.closed_is ∙ ap₂ (λ c o. c ++ closed_after o ms) u.closed_is u.last_is
           ∙ append_assoc s.closed (s.last ∷ []) (closed_after [] ms)
           ∙ ap₂ (λ o k. s.closed ++ (o ∷ k)) (sym (append-nil s.last)) (same ms);
-      last-is = r.last-is ∙ ap (λ o. last_after o ms) u.last-is ∙ empty ms;
+      last_is = r.last_is ∙ ap (λ o. last_after o ms) u.last_is ∙ empty ms;
       takes_still = λ p b t. r.takes_still p b (u.takes_still (lengths ms + p) (length ms + b)
           (subst (λ (k : ℕ). T (s.takes k (suc (length ms + b)))) (let z : 0 + lengths ms + p ≡ lengths ms + p = omega arith in z)
           (subst (λ (k : ℕ). T (s.takes (0 + lengths ms + p) k)) (let z : suc (length ms) + b ≡ suc (length ms + b) = omega arith in z) t)));

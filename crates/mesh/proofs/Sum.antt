@@ -65,9 +65,9 @@ sum_shift : (m : ℕ) (g : ℕ → ℕ) → sum_to (suc m) g ≡ g 0 + sum_to m 
 sum_shift zero g = refl
 sum_shift (suc m) g = omega (arith, sum_shift m g)
 
-times-tick : (b : Bool) (k x : ℕ) → times (tick b k) x ≡ times (tick b 0) x + times k x
-times-tick true k x = omega arith
-times-tick false k x = omega arith
+times_tick : (b : Bool) (k x : ℕ) → times (tick b k) x ≡ times (tick b 0) x + times k x
+times_tick true k x = omega arith
+times_tick false k x = omega arith
 
 times_hit : (e u x : ℕ) → e ≡ u → times (hits e u) x ≡ x
 times_hit e u x d = ap (λ k. times k x) (hits_yes e u d) ∙ add-zero x
@@ -99,7 +99,7 @@ exchange m g (u ∷ l) b =
     let r = exchange m g l b.1 in
     let s = sum_one m u g b.0 in
     let a = sum_add m (λ e. times (hits e u) (g e)) (λ e. times (occ e l) (g e)) in
-    let d = sum_eq m (λ e. times (occ e (u ∷ l)) (g e)) (λ e. times (hits e u) (g e) + times (occ e l) (g e)) (λ e lt. times-tick (eqb e u) (occ e l) (g e)) in
+    let d = sum_eq m (λ e. times (occ e (u ∷ l)) (g e)) (λ e. times (hits e u) (g e) + times (occ e l) (g e)) (λ e lt. times_tick (eqb e u) (occ e l) (g e)) in
     omega arith
 
 -- as often each, so the same weight

@@ -6,9 +6,9 @@ use Rattle.pattern.proofs.Neighbours.{AllPlaced}
 use Rattle.pattern.specs.Place.{Patch, patch_strips}
 use Rattle.pattern.specs.Sides.{occ, count, joins, back, path_sides, shown_by}
 use Rattle.pattern.specs.Spot.{Spot, spot_sides, border_sides, shown_sides, closing_sides}
-use Rattle.pattern.proofs.Count.{weigh, hit, count_weigh, count-++, count-back}
+use Rattle.pattern.proofs.Count.{weigh, hit, count_weigh, count-++, count_back}
 use Rattle.pattern.proofs.Mesh.{mesh_sound}
-use Rattle.pattern.proofs.Placing.{vertices_of, patch_shown, patch_closing_lem, all-sides, numbered}
+use Rattle.pattern.proofs.Placing.{vertices_of, patch_shown, patch_closing_lem, all_sides, numbered}
 use Rattle.shape.specs.Questions.{Accepted}
 use Rattle.shape.specs.Sides.{Use, uses, use_count}
 use Rattle.shape.specs.declared.triangle.Triangle.{Triangle}
@@ -16,10 +16,10 @@ use Rattle.mesh.specs.Numbering.{Numbering, Reached, edge_of}
 use Rattle.mesh.specs.Faces.{patches, sides, edge_path, OnBoundary, SideOnce, SidesOnce, first_use}
 use Rattle.mesh.specs.Strips.{major_from, patches_strips, shown, patches_closing, closing, ShownOnce, StripsOnce}
 use Rattle.mesh.proofs.Beside.{used_twice}
-use Rattle.mesh.proofs.Firsts.{firsts, laters, alones, alones_yes, alones_no, firsts_weigh, first_use_in, first_use-alone}
+use Rattle.mesh.proofs.Firsts.{firsts, laters, alones, alones_yes, alones_no, firsts_weigh, first_use_in, first_use_alone}
 use Rattle.mesh.proofs.Invariant.{Inv, reached_inv}
-use Rattle.mesh.proofs.Boundary.{edges-below, boundary_once}
-use Rattle.mesh.proofs.Placed.{edge-long, all_placed}
+use Rattle.mesh.proofs.Boundary.{edges_below, boundary_once}
+use Rattle.mesh.proofs.Placed.{edge_long, all_placed}
 use Rattle.mesh.proofs.Readings.{left}
 use Rattle.mesh.proofs.Borders.{runs_weigh, major_weigh, borders_are}
 use Rattle.pattern.proofs.Occurrences.{hits_yes, hits_no, Same?, is, isnt, same?, occ-cons}
@@ -61,14 +61,14 @@ shown_by-++ : (l m : List (List ℕ)) → shown_by (l ++ m) ≡ shown_by l ++ sh
 shown_by-++ [] m = refl
 shown_by-++ (x ∷ l) m = ap (λ k. path_sides x ++ k) (shown_by-++ l m) ∙ sym (append_assoc (path_sides x) (shown_by l) (shown_by m))
 
-strips-is : (n P : ℕ) (E : ℕ → List ℕ) (fs : List Patch) → AllPlaced n P E fs → shown_by (patches_strips n E fs) ≡ total (shown_sides n) (vertices_of n E fs)
-strips-is n P E [] a = refl
-strips-is n P E (t ∷ fs) a =
-    shown_by-++ (patch_strips n E t) ([] ∷ patches_strips n E fs) ∙ ap₂ (λ x y. x ++ y) (patch_shown n E t a.0.0) (strips-is n P E fs a.2)
+strips_is : (n P : ℕ) (E : ℕ → List ℕ) (fs : List Patch) → AllPlaced n P E fs → shown_by (patches_strips n E fs) ≡ total (shown_sides n) (vertices_of n E fs)
+strips_is n P E [] a = refl
+strips_is n P E (t ∷ fs) a =
+    shown_by-++ (patch_strips n E t) ([] ∷ patches_strips n E fs) ∙ ap₂ (λ x y. x ++ y) (patch_shown n E t a.0.0) (strips_is n P E fs a.2)
 
-closing-is : (n P : ℕ) (E : ℕ → List ℕ) (fs : List Patch) → AllPlaced n P E fs → patches_closing n E fs ≡ total (closing_sides n) (vertices_of n E fs)
-closing-is n P E [] a = refl
-closing-is n P E (t ∷ fs) a = ap₂ (λ x y. x ++ y) (patch_closing_lem n E t a.0.0) (closing-is n P E fs a.2)
+closing_is : (n P : ℕ) (E : ℕ → List ℕ) (fs : List Patch) → AllPlaced n P E fs → patches_closing n E fs ≡ total (closing_sides n) (vertices_of n E fs)
+closing_is n P E [] a = refl
+closing_is n P E (t ∷ fs) a = ap₂ (λ x y. x ++ y) (patch_closing_lem n E t a.0.0) (closing_is n P E fs a.2)
 
 module _ (P E : ℕ) (ts : List Triangle) (A : Accepted P E ts) (N : Numbering) (R : Reached P E ts N) where
   I : Inv P E (length ts) N
@@ -94,37 +94,37 @@ module _ (P E : ℕ) (ts : List Triangle) (A : Accepted P E ts) (N : Numbering) 
     forth : (e : ℕ) → weigh (hit eqb p q) (path_sides (edge_path N (first_use e us))) ≡ on p q e
     forth e = sym (count_weigh eqb p q (path_sides (edge_path N (first_use e us))))
 
-    back-forth : (e : ℕ) → weigh (hit eqb p q) (back (path_sides (edge_path N (first_use e us)))) ≡ on q p e
-    back-forth e = sym (count_weigh eqb p q (back (path_sides (edge_path N (first_use e us))))) ∙ count-back eqb p q (path_sides (edge_path N (first_use e us)))
+    back_forth : (e : ℕ) → weigh (hit eqb p q) (back (path_sides (edge_path N (first_use e us)))) ≡ on q p e
+    back_forth e = sym (count_weigh eqb p q (back (path_sides (edge_path N (first_use e us))))) ∙ count_back eqb p q (path_sides (edge_path N (first_use e us)))
 
     borders_count : count eqb p q (total (border_sides N.n) fs) ≡ weigh (on p q) (firsts [] us) + weigh (on q p) (laters [] us)
     borders_count =
         count_weigh eqb p q (total (border_sides N.n) fs)
-        ∙ borders_are P E N (edge-long P E ts A N I) (hit eqb p q) [] ts N.contents A.below I.contents-count
-        ∙ runs_weigh N us A.matching.one-pair (hit eqb p q) [] us (left P E ts A)
+        ∙ borders_are P E N (edge_long P E ts A N I) (hit eqb p q) [] ts N.contents A.below I.contents_count
+        ∙ runs_weigh N us A.matching.one_pair (hit eqb p q) [] us (left P E ts A)
         ∙ ap₂ (λ a b. a + b) (weigh_cong (λ e. weigh (hit eqb p q) (path_sides (edge_path N (first_use e us)))) (on p q) forth (firsts [] us))
-        (weigh_cong (λ e. weigh (hit eqb p q) (back (path_sides (edge_path N (first_use e us))))) (on q p) back-forth (laters [] us))
+        (weigh_cong (λ e. weigh (hit eqb p q) (back (path_sides (edge_path N (first_use e us))))) (on q p) back_forth (laters [] us))
 
     major_count : count eqb p q (shown_by (major_from [] N us)) ≡ weigh (on p q) (firsts [] us)
     major_count =
         count_weigh eqb p q (shown_by (major_from [] N us))
-        ∙ major_weigh N us A.matching.one-pair (hit eqb p q) [] us (left P E ts A)
+        ∙ major_weigh N us A.matching.one_pair (hit eqb p q) [] us (left P E ts A)
         ∙ weigh_cong (λ e. weigh (hit eqb p q) (path_sides (edge_path N (first_use e us)))) (on p q) forth (firsts [] us)
 
     firsts_count : weigh (on p q) (firsts [] us) ≡ weigh (on p q) (alones us us) + weigh (on p q) (laters [] us)
-    firsts_count = firsts_weigh us (used_twice P E ts A) E (edges-below P E ts A N I) (on p q)
+    firsts_count = firsts_weigh us (used_twice P E ts A) E (edges_below P E ts A N I) (on p q)
 
-    sides-count : count eqb p q (sides ts N) ≡ count eqb p q (total (spot_sides N.n) fs)
-    sides-count = ap (count eqb p q) (all-sides N.n P (edge_of N) (patches ts N) placed)
+    sides_count : count eqb p q (sides ts N) ≡ count eqb p q (total (spot_sides N.n) fs)
+    sides_count = ap (count eqb p q) (all_sides N.n P (edge_of N) (patches ts N) placed)
 
-    closing-count : count eqb p q (closing ts N) ≡ count eqb p q (total (closing_sides N.n) fs)
-    closing-count = ap (count eqb p q) (closing-is N.n P (edge_of N) (patches ts N) placed)
+    closing_count : count eqb p q (closing ts N) ≡ count eqb p q (total (closing_sides N.n) fs)
+    closing_count = ap (count eqb p q) (closing_is N.n P (edge_of N) (patches ts N) placed)
 
-    shown-count : count eqb p q (shown ts N) ≡ count eqb p q (total (shown_sides N.n) fs) + count eqb p q (shown_by (major_from [] N us))
-    shown-count =
+    shown_count : count eqb p q (shown ts N) ≡ count eqb p q (total (shown_sides N.n) fs) + count eqb p q (shown_by (major_from [] N us))
+    shown_count =
         ap (count eqb p q)
         (shown_by-++ (patches_strips N.n (edge_of N) (patches ts N)) (major_from [] N us)
-        ∙ ap (λ l. l ++ shown_by (major_from [] N us)) (strips-is N.n P (edge_of N) (patches ts N) placed))
+        ∙ ap (λ l. l ++ shown_by (major_from [] N us)) (strips_is N.n P (edge_of N) (patches ts N) placed))
         ∙ count-++ eqb p q (total (shown_sides N.n) fs) (shown_by (major_from [] N us))
 
     -- how often the boundary shows the side between p and q
@@ -138,7 +138,7 @@ module _ (P E : ℕ) (ts : List Triangle) (A : Accepted P E ts) (N : Numbering) 
     boundary_in o =
         let u = o.u in
         let e : ℕ = u.edge in
-        let same : first_use e us ≡ u = first_use-alone u us o.used o.alone in
+        let same : first_use e us ≡ u = first_use_alone u us o.used o.alone in
         let a : occ e (alones us us) ≡ use_count e us = alones_yes e us us o.alone in
         let b : 1 ≤ occ e (alones us us) = omega (arith, o.alone) in
         let c : joins eqb p q (path_sides (edge_path N (first_use e us))) ≡ joins eqb p q (path_sides (edge_path N u)) = ap (λ v. joins eqb p q (path_sides (edge_path N v))) same in
@@ -164,8 +164,8 @@ module _ (P E : ℕ) (ts : List Triangle) (A : Accepted P E ts) (N : Numbering) 
         omega (
           arith,
           (law p q).paired,
-          sides-count p q,
-          sides-count q p,
+          sides_count p q,
+          sides_count q p,
           borders_count p q,
           borders_count q p,
           firsts_count p q,
@@ -173,7 +173,7 @@ module _ (P E : ℕ) (ts : List Triangle) (A : Accepted P E ts) (N : Numbering) 
         )
 
     at_most : count eqb p q (sides ts N) ≤ 1
-    at_most = omega (arith, (law p q).once, sides-count p q)
+    at_most = omega (arith, (law p q).once, sides_count p q)
 
     -- twice what the drawing shows
     double :
@@ -183,12 +183,12 @@ module _ (P E : ℕ) (ts : List Triangle) (A : Accepted P E ts) (N : Numbering) 
         omega (
           arith,
           (law p q).shown,
-          sides-count p q,
-          sides-count q p,
-          closing-count p q,
-          closing-count q p,
-          shown-count p q,
-          shown-count q p,
+          sides_count p q,
+          sides_count q p,
+          closing_count p q,
+          closing_count q p,
+          shown_count p q,
+          shown_count q p,
           major_count p q,
           major_count q p,
           borders_count p q,
@@ -198,11 +198,11 @@ module _ (P E : ℕ) (ts : List Triangle) (A : Accepted P E ts) (N : Numbering) 
         )
 
     -- a closing side is a side in both directions
-    closing-sides : joins eqb p q (closing ts N) ≤ count eqb p q (sides ts N)
-    closing-sides = omega (arith, (law p q).parts, sides-count p q, closing-count p q, closing-count q p)
+    closing_sides_lem : joins eqb p q (closing ts N) ≤ count eqb p q (sides ts N)
+    closing_sides_lem = omega (arith, (law p q).parts, sides_count p q, closing_count p q, closing_count q p)
 
-  side-once : (p q : ℕ) → 1 ≤ count eqb p q (sides ts N) → SideOnce ts N (sides ts N) p q
-  side-once p q h =
+  side_once : (p q : ℕ) → 1 ≤ count eqb p q (sides ts N) → SideOnce ts N (sides ts N) p q
+  side_once p q h =
       let a = at_most p q in
       let b = at_most q p in
       let c = balance p q in
@@ -217,24 +217,24 @@ module _ (P E : ℕ) (ts : List Triangle) (A : Accepted P E ts) (N : Numbering) 
       inner f (yes x) = absurd (f (boundary_out p q x))
       inner f (no x) = omega (arith, h, at_most p q, at_most q p, balance p q)
 
-  shown-once : (p q : ℕ) → ShownOnce ts N (shown ts N) p q
-  shown-once p q =
+  shown_once : (p q : ℕ) → ShownOnce ts N (shown ts N) p q
+  shown_once p q =
       let a = at_most p q in
       let b = at_most q p in
       let c = balance p q in
       let d = boundary_at_most p q in
       let e = double p q in
-      let f = closing-sides p q in
-      let g = closing-sides q p in
+      let f = closing_sides_lem p q in
+      let g = closing_sides_lem q p in
       record {
         side = λ x y. omega arith;
         closes = λ x. omega arith;
         no_other = λ x. omega arith;
-        closing-side = λ x. omega arith;
+        closing_side = λ x. omega arith;
       }
 
-pub sides-once : SidesOnce
-sides-once P E ts A N R p q h = side-once P E ts A N R p q h
+pub sides_once : SidesOnce
+sides_once P E ts A N R p q h = side_once P E ts A N R p q h
 
-pub strips-once : StripsOnce
-strips-once P E ts A N R p q = shown-once P E ts A N R p q
+pub strips_once : StripsOnce
+strips_once P E ts A N R p q = shown_once P E ts A N R p q

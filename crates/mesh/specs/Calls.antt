@@ -14,8 +14,8 @@ use Rattle.mesh.specs.Sinks.{Sink}
 -- An ask is a call that reads a settled mesh, with what it is given: the triangle, the offset, the sink, and how long the buffer or
 -- the data slice is.
 pub data Ask : Type 0 where
-  triangle-faces : (t room : ℕ) → Ask
-  all-faces : (room : ℕ) → Ask
+  triangle_faces : (t room : ℕ) → Ask
+  all_faces : (room : ℕ) → Ask
   triangle_lines : (t offset : ℕ) → Sink → Ask
   major_lines : (offset : ℕ) → Sink → Ask
   all_lines : (offset : ℕ) → Sink → Ask
@@ -70,8 +70,8 @@ module _ (ts : List Triangle) (N : Numbering) where
 
   -- why a call is refused, if it is
   abbrev pub refusal : Ask → Option Refusal
-  refusal (triangle-faces t room) = first_no (no_triangle t) (buffer_short (triangle_face_numbers N) room)
-  refusal (all-faces room) = buffer_short (all_face_numbers ts N) room
+  refusal (triangle_faces t room) = first_no (no_triangle t) (buffer_short (triangle_face_numbers N) room)
+  refusal (all_faces room) = buffer_short (all_face_numbers ts N) room
   refusal (triangle_lines t offset s) =
       first_no (no_triangle t) (first_no (number_large offset) (sink_full s (triangle_line_numbers N.n) (triangle_line_breaks N.n)))
   refusal (major_lines offset s) = first_no (number_large offset) (sink_full s (major_numbers N) (major_breaks N))
@@ -80,8 +80,8 @@ module _ (ts : List Triangle) (N : Numbering) where
 
   -- the numbers that an accepted face call writes at the front of its buffer
   abbrev pub numbers_written : Ask → List ℕ
-  numbers_written (triangle-faces t room) = face_numbers (faces_of ts N t)
-  numbers_written (all-faces room) = face_numbers (faces ts N)
+  numbers_written (triangle_faces t room) = face_numbers (faces_of ts N t)
+  numbers_written (all_faces room) = face_numbers (faces ts N)
   numbers_written (triangle_lines t offset s) = []
   numbers_written (major_lines offset s) = []
   numbers_written (all_lines offset s) = []
@@ -97,8 +97,8 @@ module _ (ts : List Triangle) (N : Numbering) where
 
   -- the strips that an accepted line call writes to its sink
   abbrev pub strips_written : Ask → List (List ℕ)
-  strips_written (triangle-faces t room) = []
-  strips_written (all-faces room) = []
+  strips_written (triangle_faces t room) = []
+  strips_written (all_faces room) = []
   strips_written (triangle_lines t offset s) = offset_by offset (strips_of ts N t)
   strips_written (major_lines offset s) = offset_by offset (major_strips ts N)
   strips_written (all_lines offset s) = offset_by offset (strips ts N)
@@ -106,8 +106,8 @@ module _ (ts : List Triangle) (N : Numbering) where
 
   -- what is written fits: the numbers into the buffer, the strips into the sink
   abbrev pub Fits : Ask → Type 0
-  Fits (triangle-faces t room) = length (numbers_written (triangle-faces t room)) ≤ room
-  Fits (all-faces room) = length (numbers_written (all-faces room)) ≤ room
+  Fits (triangle_faces t room) = length (numbers_written (triangle_faces t room)) ≤ room
+  Fits (all_faces room) = length (numbers_written (all_faces room)) ≤ room
   Fits (triangle_lines t offset s) = TakenBy s (strips_written (triangle_lines t offset s))
   Fits (major_lines offset s) = TakenBy s (strips_written (major_lines offset s))
   Fits (all_lines offset s) = TakenBy s (strips_written (all_lines offset s))

@@ -87,7 +87,7 @@ abbrev pub edge_of : Numbering → ℕ → List ℕ
 edge_of N e = slice_index_or N.edges e []
 
 pub record Counted (P E : ℕ) (ts : List Triangle) (N : Numbering) : Type 0 where
-  pub total-is : N.total ≡ P + N.n * E + length ts * (N.n * (N.n - 1) / 2)
+  pub total_is : N.total ≡ P + N.n * E + length ts * (N.n * (N.n - 1) / 2)
   pub fits : N.total ≤ 3360
   -- every number below the total is given once, and no other
   pub once : (x : ℕ) → x < N.total → occ x (given P N) ≡ 1

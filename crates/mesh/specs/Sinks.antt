@@ -13,13 +13,13 @@ pub record Sink : Type 0 where
 -- a push lengthens the open strip, and if (p, b) could be taken, (p - 1, b) can
 pub record Pushed (x : ℕ) (s s' : Sink) : Type 0 where
   pub closed_is : s'.closed ≡ s.closed
-  pub last-is : s'.last ≡ s.last ++ (x ∷ [])
+  pub last_is : s'.last ≡ s.last ++ (x ∷ [])
   pub takes_still : (p b : ℕ) → T (s.takes (suc p) b) → T (s'.takes p b)
 
 -- a break closes the open strip and opens an empty one, and if (p, b) could be taken, (p, b - 1) can
 pub record Broken (s s' : Sink) : Type 0 where
   pub closed_is : s'.closed ≡ s.closed ++ (s.last ∷ [])
-  pub last-is : s'.last ≡ []
+  pub last_is : s'.last ≡ []
   pub takes_still : (p b : ℕ) → T (s.takes p (suc b)) → T (s'.takes p b)
 
 -- each strip's numbers are pushed in turn and a break follows, strip after strip
@@ -40,7 +40,7 @@ last_after o (l ∷ ls) = []
 -- what a sink is after strips were written: it has taken as many numbers as they have, and as many breaks as they are
 pub record Written (ls : List (List ℕ)) (s s' : Sink) : Type 0 where
   pub closed_is : s'.closed ≡ s.closed ++ closed_after s.last ls
-  pub last-is : s'.last ≡ last_after s.last ls
+  pub last_is : s'.last ≡ last_after s.last ls
   pub takes_still : (p b : ℕ) → T (s.takes (lengths ls + p) (length ls + b)) → T (s'.takes p b)
 
 -- no push and no break of the writing finds the sink full

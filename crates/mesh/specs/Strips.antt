@@ -67,7 +67,7 @@ pub record ShownOnce (ts : List Triangle) (N : Numbering) (l : List (Side ℕ)) 
   pub closes : 1 ≤ joins nat_eq p q (closing ts N) → joins nat_eq p q l ≡ 2
   pub no_other : joins nat_eq p q (sides ts N) ≡ 0 → joins nat_eq p q l ≡ 0
   -- and a closing side is a side of a face
-  pub closing-side : 1 ≤ joins nat_eq p q (closing ts N) → 1 ≤ joins nat_eq p q (sides ts N)
+  pub closing_side : 1 ≤ joins nat_eq p q (closing ts N) → 1 ≤ joins nat_eq p q (sides ts N)
 
 abbrev pub StripsOnce : Type 0
 StripsOnce =
@@ -88,20 +88,20 @@ all_breaks ts N = length ts * (triangle_line_breaks N.n + 1) + major_breaks N
 
 -- how many numbers and breaks each line call writes
 pub record LinesCounted (ts : List Triangle) (N : Numbering) : Type 0 where
-  pub triangle-numbers : (t : ℕ) → t < length ts → lengths (strips_of ts N t) ≡ triangle_line_numbers N.n
-  pub triangle-breaks : (t : ℕ) → t < length ts → length (strips_of ts N t) ≡ triangle_line_breaks N.n
+  pub triangle_numbers : (t : ℕ) → t < length ts → lengths (strips_of ts N t) ≡ triangle_line_numbers N.n
+  pub triangle_breaks : (t : ℕ) → t < length ts → length (strips_of ts N t) ≡ triangle_line_breaks N.n
   pub major_numbers_lem : lengths (major_strips ts N) ≡ major_numbers N
   pub major_breaks_lem : length (major_strips ts N) ≡ major_breaks N
-  pub all-numbers : lengths (strips ts N) ≡ all_numbers ts N
-  pub all-breaks : length (strips ts N) ≡ all_breaks ts N
+  pub all_numbers_lem : lengths (strips ts N) ≡ all_numbers ts N
+  pub all_breaks_lem : length (strips ts N) ≡ all_breaks ts N
 
 abbrev pub LinesAreCounted : Type 0
 LinesAreCounted = (P E : ℕ) (ts : List Triangle) → Accepted P E ts → (N : Numbering) → Reached P E ts N → LinesCounted ts N
 
 -- every number of a face or a strip is a vertex's
 pub record NumbersBelow (ts : List Triangle) (N : Numbering) : Type 0 where
-  pub triangle-faces : (t : ℕ) → Each (λ x. x < N.total) (face_numbers (faces_of ts N t))
-  pub all-faces : Each (λ x. x < N.total) (face_numbers (faces ts N))
+  pub triangle_faces : (t : ℕ) → Each (λ x. x < N.total) (face_numbers (faces_of ts N t))
+  pub all_faces : Each (λ x. x < N.total) (face_numbers (faces ts N))
   pub triangle_lines : (t : ℕ) → Each (Each (λ x. x < N.total)) (strips_of ts N t)
   pub major_lines : Each (Each (λ x. x < N.total)) (major_strips ts N)
   pub all_lines : Each (Each (λ x. x < N.total)) (strips ts N)

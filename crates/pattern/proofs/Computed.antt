@@ -205,12 +205,12 @@ passed n h =
     }
 
 -- a test that passes at 0 to k passes at each
-at-step : (f : ℕ → Bool) (k n : ℕ) → (n ≤ k → T (f n)) → T (f (suc k)) → n ≤ suc k → Dec (n ≤ k) → T (f n)
-at-step f k n below here h (yes le) = below le
-at-step f k n below here h (no nle) = let e : suc k ≡ n = omega arith in subst (λ (m : ℕ). T (f m)) e here
+at_step : (f : ℕ → Bool) (k n : ℕ) → (n ≤ k → T (f n)) → T (f (suc k)) → n ≤ suc k → Dec (n ≤ k) → T (f n)
+at_step f k n below here h (yes le) = below le
+at_step f k n below here h (no nle) = let e : suc k ≡ n = omega arith in subst (λ (m : ℕ). T (f m)) e here
 
 pub at_count : (f : ℕ → Bool) (k : ℕ) → T (up_to k f) → (n : ℕ) → n ≤ k → T (f n)
 at_count f zero t zero h = t
 at_count f zero t (suc n) h = absurd (not-suc-le-zero h)
 at_count f (suc k) t n h =
-    at-step f k n (at_count f k (both_right (f (suc k)) (up_to k f) t) n) (both_left (f (suc k)) (up_to k f) t) h (dec_le n k)
+    at_step f k n (at_count f k (both_right (f (suc k)) (up_to k f) t) n) (both_left (f (suc k)) (up_to k f) t) h (dec_le n k)

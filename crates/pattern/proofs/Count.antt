@@ -68,9 +68,9 @@ module _ {X : Type 0} (eq : X → X → Bool) where
       count_weigh p q (l ++ m) ∙ weigh-++ (hit p q) l m
       ∙ ap₂ (λ x y. x + y) (sym (count_weigh p q l)) (sym (count_weigh p q m))
 
-  pub count-back : (p q : X) (l : List (Side X)) → count eq p q (back l) ≡ count eq q p l
-  count-back p q [] = refl
-  count-back p q (s ∷ l) = ap₂ tick (both_comm (eq p s.1) (eq q s.0)) (count-back p q l)
+  pub count_back : (p q : X) (l : List (Side X)) → count eq p q (back l) ≡ count eq q p l
+  count_back p q [] = refl
+  count_back p q (s ∷ l) = ap₂ tick (both_comm (eq p s.1) (eq q s.0)) (count_back p q l)
 
   pub count_two_ways : (p q : X) (l : List (Side X)) → count eq p q (two_ways l) ≡ joins eq p q l
-  count_two_ways p q l = count-++ p q l (back l) ∙ ap (λ n. count eq p q l + n) (count-back p q l)
+  count_two_ways p q l = count-++ p q l (back l) ∙ ap (λ n. count eq p q l + n) (count_back p q l)

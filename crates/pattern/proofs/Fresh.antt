@@ -19,9 +19,9 @@ use Rattle.pattern.proofs.Link.{all}
 use Rattle.pattern.proofs.Natural.{up-map, join}
 use Rattle.pattern.proofs.Sort.{eq_spot→eq}
 
-tick-one : (b : Bool) (n : ℕ) → T b → tick b n ≡ suc n
-tick-one true n t = refl
-tick-one false n t = absurd t
+tick_one : (b : Bool) (n : ℕ) → T b → tick b n ≡ suc n
+tick_one true n t = refl
+tick_one false n t = absurd t
 
 tick_le : (b : Bool) (n : ℕ) → n ≤ tick b n
 tick_le true n = omega arith
@@ -35,7 +35,7 @@ module _ (f : Spot → ℕ) where
       go : (b : Bool) → (T b → q ≡ s) → (T (among eq_spot q l) → 1 ≤ occ (f q) (map f l)) → T (either b (among eq_spot q l)) → 1 ≤ occ (f q) (map f (s ∷ l))
       go true e r u =
           let z : T (eqb (f q) (f s)) = subst (λ (x : Spot). T (eqb (f q) (f x))) (e tt) (eqb_refl (f q)) in
-          let y = tick-one (eqb (f q) (f s)) (occ (f q) (map f l)) z in
+          let y = tick_one (eqb (f q) (f s)) (occ (f q) (map f l)) z in
           omega arith
       go false e r u = let y = r u in let z = tick_le (eqb (f q) (f s)) (occ (f q) (map f l)) in omega arith
 
@@ -44,7 +44,7 @@ module _ (f : Spot → ℕ) where
   twice s q l once i e =
       let a : 1 ≤ occ (f q) (map f l) = occ_in q l i in
       let z : T (eqb (f q) (f s)) = subst (λ (x : ℕ). T (eqb (f q) x)) (sym e) (eqb_refl (f q)) in
-      let y = tick-one (eqb (f q) (f s)) (occ (f q) (map f l)) z in
+      let y = tick_one (eqb (f q) (f s)) (occ (f q) (map f l)) z in
       let o = once (f q) in
       omega arith
 
@@ -131,8 +131,8 @@ module _ (n a b c : ℕ) (ab bc ca : ℕ → ℕ) (g : NumberedContents) (r : Of
   vertex : Spot → ℕ
   vertex = vertex_of a b c ab bc ca (view g)
 
-  all-vertices : map (vertex_of a b c ab bc ca (view g)) (all_spots n) ≡ ring_list n a b c ab bc ca ++ vertices g
-  all-vertices =
+  all_vertices : map (vertex_of a b c ab bc ca (view g)) (all_spots n) ≡ ring_list n a b c ab bc ca ++ vertices g
+  all_vertices =
       let f : Spot → ℕ = vertex_of a b c ab bc ca (view g) in
       sym (join f
       (ring_list n (spot 0 0 0) (spot 0 1 0) (spot 0 2 0) (λ i. spot 0 0 (suc i)) (λ i. spot 0 1 (suc i)) (λ i. spot 0 2 (suc i)))
@@ -141,8 +141,8 @@ module _ (n a b c : ℕ) (ab bc ca : ℕ → ℕ) (g : NumberedContents) (r : Of
       (ring_list-map f n (spot 0 0 0) (spot 0 1 0) (spot 0 2 0) (λ i. spot 0 0 (suc i)) (λ i. spot 0 1 (suc i)) (λ i. spot 0 2 (suc i)))
       (sym (view_list n g r) ∙ ap contents_list (sym (all n a b c ab bc ca (view g) (sized n g r))) ∙ contents_list-map f (inside 1 n)))
 
-  pub inner-vertices : map (vertex_of a b c ab bc ca (view g)) (contents_list (inside 1 n)) ≡ vertices g
-  inner-vertices =
+  pub inner_vertices : map (vertex_of a b c ab bc ca (view g)) (contents_list (inside 1 n)) ≡ vertices g
+  inner_vertices =
       let f : Spot → ℕ = vertex_of a b c ab bc ca (view g) in
       sym (contents_list-map f (inside 1 n)) ∙ ap contents_list (all n a b c ab bc ca (view g) (sized n g r)) ∙ view_list n g r
 
@@ -150,4 +150,4 @@ module _ (n a b c : ℕ) (ab bc ca : ℕ → ℕ) (g : NumberedContents) (r : Of
   pub triangle_apart : ((x : ℕ) → occ x (ring_list n a b c ab bc ca ++ vertices g) ≤ 1) → Apart n (vertex_of a b c ab bc ca (view g))
   triangle_apart once p q i j e =
       distinct (vertex_of a b c ab bc ca (view g)) (all_spots n)
-      (λ x. subst (λ (l : List ℕ). occ x l ≤ 1) (sym all-vertices) (once x)) p q i j e
+      (λ x. subst (λ (l : List ℕ). occ x l ≤ 1) (sym all_vertices) (once x)) p q i j e

@@ -6,7 +6,7 @@ use native.Mathlib.Omega.{arith}
 use lib.ListN.{length-append}
 use Rattle.pattern.specs.Laws.{StepLaw, StepsSound}
 use Rattle.pattern.proofs.Occurrences.{occ_alike, occ-++}
-use Rattle.pattern.proofs.Sized.{Sized, sized_0, sized_1, sized_2, sized_3, sized_4, sized-more}
+use Rattle.pattern.proofs.Sized.{Sized, sized_0, sized_1, sized_2, sized_3, sized_4, sized_more}
 use Rattle.pattern.specs.Step.{NumberedContents, None, One, Three, Six, More, view, taken, step, vertices, range, OfCount, of_0, of_1, of_2, of_3, of_4, of_more}
 use Rattle.pattern.proofs.Count.{Alike, weigh-++}
 
@@ -16,7 +16,7 @@ sized n g of_1 = sized_1
 sized n g of_2 = sized_2
 sized n g of_3 = sized_3
 sized n g of_4 = sized_4
-sized n g (of_more {k = k} {t = t} e r) = sized-more (sized (suc (suc k)) t r)
+sized n g (of_more {k = k} {t = t} e r) = sized_more (sized (suc (suc k)) t r)
 
 -- no step is taken from count 0 to 1
 pub step_of_count : (h n : ℕ) (g : NumberedContents) → 1 ≤ n → OfCount n g → OfCount (suc n) (step h g)

@@ -6,7 +6,7 @@ use Rattle.pattern.specs.Ring.{Contents, more, triangle_faces, triangle_strips, 
 use Rattle.pattern.specs.Sides.{map_side}
 use Rattle.pattern.specs.Spot.{Spot, spot, inside, spot_faces, spot_strips, closing_sides}
 use Rattle.pattern.specs.Vertex.{vertex_in, vertex_of}
-use Rattle.pattern.proofs.Sized.{Sized, sized_0, sized_1, sized_2, sized_3, sized_4, sized-more}
+use Rattle.pattern.proofs.Sized.{Sized, sized_0, sized_1, sized_2, sized_3, sized_4, sized_more}
 use Rattle.pattern.proofs.Natural.{triangle_faces-map, triangle_strips-map, triangle_closing-map}
 
 module _ {X : Type 0} where
@@ -28,7 +28,7 @@ module _ {X : Type 0} where
   rings x n t sized_2 = refl
   rings x n t sized_3 = refl
   rings x n t sized_4 = refl
-  rings x n t (sized-more {k = k} {a = a} {b = b} {c = c} {ab = ab} {bc = bc} {ca = ca} {t = u} z) =
+  rings x n t (sized_more {k = k} {a = a} {b = b} {c = c} {ab = ab} {bc = bc} {ca = ca} {t = u} z) =
       let e = shift (λ p. vertex_in x (more a b c (suc (suc k)) ab bc ca u) p.0 p.1 p.2) 0 (suc (suc k)) in
       ap (λ v. more a b c (suc (suc k)) ab bc ca v) (e ∙ rings x (suc (suc k)) u z)
 

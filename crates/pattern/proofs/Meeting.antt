@@ -20,7 +20,7 @@ pub record Shared (n : ℕ) (p q p' q' : Spot) : Type 0 where
   pub k'<3 : k' < 3
   pub x_in : x ≤ suc n
   pub y_in : y ≤ suc n
-  pub is-p : p ≡ border_at n k x
+  pub is_p : p ≡ border_at n k x
   pub is_q : q ≡ border_at n k y
   pub is_p' : p' ≡ border_at n k' (suc n - x)
   pub is_q' : q' ≡ border_at n k' (suc n - y)

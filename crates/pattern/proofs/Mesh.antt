@@ -9,7 +9,7 @@ use Rattle.pattern.proofs.Meeting.{Apart, Shared, Meet, MeetAll, Numbered, total
 use Rattle.pattern.specs.Sides.{Side, count, joins, among, back, map_side, path_sides}
 use Rattle.pattern.specs.Spot.{Spot, eq_spot, spot_sides, border_sides, shown_sides, closing_sides, closed_side, is_spot, border_at, ends}
 use Rattle.pattern.proofs.Natural.{back-map}
-use Rattle.pattern.proofs.Count.{hit, count_weigh, weigh, weigh-++, Alike, two_ways, count_alike, both_left, both_right, count-++, count-back}
+use Rattle.pattern.proofs.Count.{hit, count_weigh, weigh, weigh-++, Alike, two_ways, count_alike, both_left, both_right, count-++, count_back}
 use Rattle.pattern.proofs.Sort.{at}
 use Rattle.pattern.proofs.Spots.{spots_sound, s_spots, no_loop, parts_weigh, paired_alike, shows_alike, next, on_side, only_next}
 use Rattle.pattern.proofs.Transport.{weigh_map, alike_map, count_map, From, from}
@@ -41,8 +41,8 @@ module _ (n : ℕ) (h : n ≤ 12) where
   in_border (suc (suc (suc k))) lt p q c = absurd (let z : ⊥ = omega arith in z)
 
   module _ (f : Spot → ℕ) (inj : Apart n f) where
-    vertex-once_from : (P Q : ℕ) → From f P Q (spot_sides n) → count eqb P Q (map (map_side f) (spot_sides n)) ≤ 1
-    vertex-once_from P Q o =
+    vertex_once_from : (P Q : ℕ) → From f P Q (spot_sides n) → count eqb P Q (map (map_side f) (spot_sides n)) ≤ 1
+    vertex_once_from P Q o =
         let e : count eqb (f o.p) (f o.q) (map (map_side f) (spot_sides n)) ≡ count eq_spot o.p o.q (spot_sides n)
         = count_map n f inj o.p o.q (start o.p o.q o.occurs) (end o.p o.q o.occurs) (spot_sides n) (s_spots n h) in
         let u : count eq_spot o.p o.q (spot_sides n) ≤ 1 = (spots_sound n h o.p o.q).0.once in
@@ -51,17 +51,17 @@ module _ (n : ℕ) (h : n ≤ 12) where
         = subst (λ (x : ℕ). count eqb x (f o.q) (map (map_side f) (spot_sides n)) ≤ 1) (sym o.is_P) v in
         subst (λ (x : ℕ). count eqb P x (map (map_side f) (spot_sides n)) ≤ 1) (sym o.is_Q) w
 
-    vertex-once : (P Q : ℕ) → count eqb P Q (map (map_side f) (spot_sides n)) ≤ 1
-    vertex-once P Q = go (dec_le 1 (count eqb P Q (map (map_side f) (spot_sides n))))
+    vertex_once : (P Q : ℕ) → count eqb P Q (map (map_side f) (spot_sides n)) ≤ 1
+    vertex_once P Q = go (dec_le 1 (count eqb P Q (map (map_side f) (spot_sides n))))
       where
         go : Dec (1 ≤ count eqb P Q (map (map_side f) (spot_sides n))) → count eqb P Q (map (map_side f) (spot_sides n)) ≤ 1
-        go (yes c) = vertex-once_from P Q (from f P Q (spot_sides n) c)
+        go (yes c) = vertex_once_from P Q (from f P Q (spot_sides n) c)
         go (no c) = omega arith
 
   -- what two triangles share, they run along in opposite directions
   module _ (p q p' q' : Spot) (s : Shared n p q p' q') where
     p_on : T (among eq_spot p (closed_side n s.k))
-    p_on = subst (λ (z : Spot). T (among eq_spot z (closed_side n s.k))) (sym s.is-p) (on_side n h s.k s.k<3 s.x s.x_in)
+    p_on = subst (λ (z : Spot). T (among eq_spot z (closed_side n s.k))) (sym s.is_p) (on_side n h s.k s.k<3 s.x s.x_in)
 
     q_on : T (among eq_spot q (closed_side n s.k))
     q_on = subst (λ (z : Spot). T (among eq_spot z (closed_side n s.k))) (sym s.is_q) (on_side n h s.k s.k<3 s.y s.y_in)
@@ -70,7 +70,7 @@ module _ (n : ℕ) (h : n ≤ 12) where
     against c =
         let l = path_sides (closed_side n s.k) in
         let m = path_sides (closed_side n s.k') in
-        let c₁ = subst (λ (z : Spot). 1 ≤ count eq_spot z q l) s.is-p c in
+        let c₁ = subst (λ (z : Spot). 1 ≤ count eq_spot z q l) s.is_p c in
         let c₂ = subst (λ (z : Spot). 1 ≤ count eq_spot (border_at n s.k s.x) z l) s.is_q c₁ in
         let e : s.y ≡ suc s.x = only_next n h s.k s.k<3 s.x s.y s.x_in s.y_in c₂ in
         let yi = s.y_in in
@@ -123,11 +123,11 @@ module _ (n : ℕ) (h : n ≤ 12) where
       go (yes c) = absurd (clash f g m.0 P Q o (from g P Q (spot_sides n) c))
       go (no c) = omega arith
 
-  mesh-once : (fs : List (Spot → ℕ)) → Numbered n fs → (P Q : ℕ) → count eqb P Q (total (spot_sides n) fs) ≤ 1
-  mesh-once [] m P Q = omega arith
-  mesh-once (f ∷ fs) m P Q =
-      let r : count eqb P Q (total (spot_sides n) fs) ≤ 1 = mesh-once fs m.2 P Q in
-      let a : count eqb P Q (map (map_side f) (spot_sides n)) ≤ 1 = vertex-once f m.0 P Q in
+  mesh_once : (fs : List (Spot → ℕ)) → Numbered n fs → (P Q : ℕ) → count eqb P Q (total (spot_sides n) fs) ≤ 1
+  mesh_once [] m P Q = omega arith
+  mesh_once (f ∷ fs) m P Q =
+      let r : count eqb P Q (total (spot_sides n) fs) ≤ 1 = mesh_once fs m.2 P Q in
+      let a : count eqb P Q (map (map_side f) (spot_sides n)) ≤ 1 = vertex_once f m.0 P Q in
       let b : count eqb P Q (map (map_side f) (spot_sides n)) + count eqb P Q (total (spot_sides n) fs) ≤ 1
       = go r a (dec_le 1 (count eqb P Q (map (map_side f) (spot_sides n)))) in
       omega (arith, count-++ eqb P Q (map (map_side f) (spot_sides n)) (total (spot_sides n) fs))
@@ -175,16 +175,16 @@ module _ (P Q : ℕ) where
         count-++ eqb P Q (map (map_side f) m) (total m fs),
       )
 
-  total-back : (l : List (Side Spot)) (fs : List (Spot → ℕ)) → count eqb P Q (total (back l) fs) ≡ count eqb Q P (total l fs)
-  total-back l [] = refl
-  total-back l (f ∷ fs) =
-      let r = total-back l fs in
+  total_back : (l : List (Side Spot)) (fs : List (Spot → ℕ)) → count eqb P Q (total (back l) fs) ≡ count eqb Q P (total l fs)
+  total_back l [] = refl
+  total_back l (f ∷ fs) =
+      let r = total_back l fs in
       let e : count eqb P Q (map (map_side f) (back l)) ≡ count eqb Q P (map (map_side f) l)
-      = ap (count eqb P Q) (sym (back-map f l)) ∙ count-back eqb P Q (map (map_side f) l) in
+      = ap (count eqb P Q) (sym (back-map f l)) ∙ count_back eqb P Q (map (map_side f) l) in
       omega (arith, count-++ eqb P Q (map (map_side f) (back l)) (total (back l) fs), count-++ eqb Q P (map (map_side f) l) (total l fs))
 
   total_two_ways : (l : List (Side Spot)) (fs : List (Spot → ℕ)) → count eqb P Q (total (two_ways l) fs) ≡ joins eqb P Q (total l fs)
-  total_two_ways l fs = total-++ l (back l) fs ∙ ap (λ k. count eqb P Q (total l fs) + k) (total-back l fs)
+  total_two_ways l fs = total-++ l (back l) fs ∙ ap (λ k. count eqb P Q (total l fs) + k) (total_back l fs)
 
 pub mesh_sound : MeshSound
 mesh_sound n h fs m P Q =
@@ -197,8 +197,8 @@ mesh_sound n h fs m P Q =
     let B = two_ways S ++ two_ways C ++ two_ways C in
     let g = count_alike eqb (total A fs) (total B fs) (total_alike A B (shows_alike n h) fs) P Q in
     record {
-      once = mesh-once n h fs m P Q;
-      paired = omega (arith, total-++ P Q S (back R) fs, total-++ P Q (back S) R fs, total-back P Q R fs, total-back P Q S fs);
+      once = mesh_once n h fs m P Q;
+      paired = omega (arith, total-++ P Q S (back R) fs, total-++ P Q (back S) R fs, total_back P Q R fs, total_back P Q S fs);
       parts =
           omega (
             arith,

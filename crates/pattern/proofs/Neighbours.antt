@@ -34,7 +34,7 @@ pub record Beside (t u : BySide) : Type 0 where
 
 -- p of t and p' of u have one vertex: both are corners, or both lie on a common edge, as far from opposite ends
 pub data Same (n : ℕ) (t u : BySide) (p p' : Spot) : Type 0 where
-  at-corner :
+  at_corner :
       (s s' : ℕ) → s < 3 → s' < 3 → p ≡ spot 0 s 0 → p' ≡ spot 0 s' 0 → t.corner s ≡ u.corner s' → Same n t u p p'
   on_edge :
       (s s' x : ℕ) → s < 3 → s' < 3 → 1 ≤ x → x ≤ n → p ≡ spot 0 s x → p' ≡ spot 0 s' (suc n - x) → t.edge s ≡ u.edge s'
@@ -45,8 +45,8 @@ pub record Placed (n P : ℕ) (E : ℕ → List ℕ) (t u : Patch) : Type 0 wher
   pub beside : Beside t.tri u.tri
   pub right_t : OfCount n t.inner
   pub right_u : OfCount n u.inner
-  pub point-t : (k : ℕ) → k < 3 → t.tri.corner k < P
-  pub point-u : (k : ℕ) → k < 3 → u.tri.corner k < P
+  pub point_t : (k : ℕ) → k < 3 → t.tri.corner k < P
+  pub point_u : (k : ℕ) → k < 3 → u.tri.corner k < P
   pub edge_high_t : (k i : ℕ) → k < 3 → i < n → P ≤ get_or (E (t.tri.edge k)) i 0
   pub edge_high_u : (k i : ℕ) → k < 3 → i < n → P ≤ get_or (E (u.tri.edge k)) i 0
   pub inner_high_t : (x : ℕ) → 1 ≤ occ x (vertices t.inner) → P ≤ x
@@ -54,8 +54,8 @@ pub record Placed (n P : ℕ) (E : ℕ → List ℕ) (t u : Patch) : Type 0 wher
   pub edges_apart :
       (k i l j : ℕ) → k < 3 → l < 3 → i < n → j < n → get_or (E (t.tri.edge k)) i 0 ≡ get_or (E (u.tri.edge l)) j 0
       → (t.tri.edge k ≡ u.tri.edge l) × (i ≡ j)
-  pub edge-inner_t : (k i : ℕ) → k < 3 → i < n → 1 ≤ occ (get_or (E (u.tri.edge k)) i 0) (vertices t.inner) → ⊥
-  pub edge-inner_u : (k i : ℕ) → k < 3 → i < n → 1 ≤ occ (get_or (E (t.tri.edge k)) i 0) (vertices u.inner) → ⊥
+  pub edge_inner_t : (k i : ℕ) → k < 3 → i < n → 1 ≤ occ (get_or (E (u.tri.edge k)) i 0) (vertices t.inner) → ⊥
+  pub edge_inner_u : (k i : ℕ) → k < 3 → i < n → 1 ≤ occ (get_or (E (t.tri.edge k)) i 0) (vertices u.inner) → ⊥
   pub inner_apart : (x : ℕ) → 1 ≤ occ x (vertices t.inner) → 1 ≤ occ x (vertices u.inner) → ⊥
   -- of the two, one reads a common edge forward and the other backward
   pub against :

@@ -89,21 +89,21 @@ range-++ h zero j = ap₂ (λ a b. range a b) (sym (add-zero h)) (zero-add j)
 range-++ h (suc k) j =
     ap (range h) (suc-add k j) ∙ ap (λ l. h ∷ l) (range-++ (suc h) k j ∙ ap (λ a. range (suc h) k ++ range a j) (suc-add h k ∙ sym (add-suc h k)))
 
-pub range-out : (x h k : ℕ) → x < h → occ x (range h k) ≡ 0
-range-out x h zero l = refl
-range-out x h (suc k) l =
+pub range_out : (x h k : ℕ) → x < h → occ x (range h k) ≡ 0
+range_out x h zero l = refl
+range_out x h (suc k) l =
     let a : x < suc h = omega arith in
     let ne : x ≡ h → ⊥ = λ e. omega arith in
-    omega (arith, range-out x (suc h) k a, occ-cons x h (range (suc h) k), hits_no x h ne)
+    omega (arith, range_out x (suc h) k a, occ-cons x h (range (suc h) k), hits_no x h ne)
 
-pub range-once : (x h k : ℕ) → occ x (range h k) ≤ 1
-range-once x h zero = omega arith
-range-once x h (suc k) = go (same? x h) (range-once x (suc h) k)
+pub range_once : (x h k : ℕ) → occ x (range h k) ≤ 1
+range_once x h zero = omega arith
+range_once x h (suc k) = go (same? x h) (range_once x (suc h) k)
   where
     go : Same? x h → occ x (range (suc h) k) ≤ 1 → occ x (range h (suc k)) ≤ 1
     go (is e d) r =
         let a : x < suc h = omega arith in
-        omega (arith, range-out x (suc h) k a, occ-cons x h (range (suc h) k), hits_yes x h e)
+        omega (arith, range_out x (suc h) k a, occ-cons x h (range (suc h) k), hits_yes x h e)
     go (isnt f d) r = omega (arith, occ-cons x h (range (suc h) k), hits_no x h f)
 
 pub range_in : (x h k : ℕ) → h ≤ x → x < h + k → 1 ≤ occ x (range h k)

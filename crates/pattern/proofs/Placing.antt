@@ -6,7 +6,7 @@ use mathlib.Core.Bool.{Bool, true, false}
 use Prim.Native.Nat.{ℕ, suc, ◌-◌, ◌≤◌, ◌<◌}
 use native.Mathlib.Omega.{arith}
 use Rattle.pattern.proofs.Meeting.{Meet, MeetAll, Numbered, total}
-use Rattle.pattern.proofs.Neighbours.{Same, at-corner, on_edge, Placed, PlacedAll, AllPlaced}
+use Rattle.pattern.proofs.Neighbours.{Same, at_corner, on_edge, Placed, PlacedAll, AllPlaced}
 use Rattle.pattern.specs.Place.{Patch, turned, reading, patch_vertex, patch_faces, patch_strips, patch_closing, all_faces}
 use Rattle.pattern.specs.Ring.{Face}
 use Rattle.pattern.specs.Sides.{occ, face_sides, shown_by, map_side}
@@ -17,7 +17,7 @@ use Rattle.pattern.proofs.Grow.{sized}
 use Rattle.pattern.proofs.Link.{faces_of_spots, strips_of_spots, closing_of_spots}
 use Rattle.pattern.proofs.Natural.{face_sides-map, shown_by-map}
 use Rattle.pattern.proofs.Share.{meet}
-use Rattle.pattern.proofs.SpotKinds.{Kind, a-corner, a-border, within, kind, turned_in, vertex-corner, vertex-border, vertex-within}
+use Rattle.pattern.proofs.SpotKinds.{Kind, a_corner, a_border, within, kind, turned_in, vertex_corner, vertex_border, vertex_within}
 
 -- the same place of one edge, read from opposite ends
 ends_meet :
@@ -38,43 +38,43 @@ module _ (n : ℕ) (h : n ≤ 12) (P : ℕ) (E : ℕ → List ℕ) (t u : Patch)
   place_u s i l = turned_in n (u.forth s) i l
 
   by_kind : (p p' : Spot) → patch_vertex n E t p ≡ patch_vertex n E u p' → Kind n p → Kind n p' → Same n t.tri u.tri p p'
-  by_kind p p' e (a-corner s a x) (a-corner s' a' x') =
-      at-corner s s' a a' x x' (sym (vertex-corner n h E t A.right_t p s a x) ∙ e ∙ vertex-corner n h E u A.right_u p' s' a' x')
-  by_kind p p' e (a-corner s a x) (a-border s' i' a' l' x') =
-      absurd (let lo = A.point-t s a in
+  by_kind p p' e (a_corner s a x) (a_corner s' a' x') =
+      at_corner s s' a a' x x' (sym (vertex_corner n h E t A.right_t p s a x) ∙ e ∙ vertex_corner n h E u A.right_u p' s' a' x')
+  by_kind p p' e (a_corner s a x) (a_border s' i' a' l' x') =
+      absurd (let lo = A.point_t s a in
       let hi = A.edge_high_u s' (turned n (u.forth s') i') a' (place_u s' i' l') in
-      let d = sym (vertex-corner n h E t A.right_t p s a x) ∙ e ∙ vertex-border n h E u A.right_u p' s' i' a' x' in
+      let d = sym (vertex_corner n h E t A.right_t p s a x) ∙ e ∙ vertex_border n h E u A.right_u p' s' i' a' x' in
       let z : ⊥ = omega arith in z)
-  by_kind p p' e (a-corner s a x) (within w') =
-      absurd (let lo = A.point-t s a in
-      let hi = A.inner_high_u (patch_vertex n E u p') (vertex-within n h E u A.right_u p' w') in
-      let d = sym (vertex-corner n h E t A.right_t p s a x) ∙ e in
+  by_kind p p' e (a_corner s a x) (within w') =
+      absurd (let lo = A.point_t s a in
+      let hi = A.inner_high_u (patch_vertex n E u p') (vertex_within n h E u A.right_u p' w') in
+      let d = sym (vertex_corner n h E t A.right_t p s a x) ∙ e in
       let z : ⊥ = omega arith in z)
-  by_kind p p' e (a-border s i a l x) (a-corner s' a' x') =
-      absurd (let lo = A.point-u s' a' in
+  by_kind p p' e (a_border s i a l x) (a_corner s' a' x') =
+      absurd (let lo = A.point_u s' a' in
       let hi = A.edge_high_t s (turned n (t.forth s) i) a (place_t s i l) in
-      let d = sym (vertex-border n h E t A.right_t p s i a x) ∙ e ∙ vertex-corner n h E u A.right_u p' s' a' x' in
+      let d = sym (vertex_border n h E t A.right_t p s i a x) ∙ e ∙ vertex_corner n h E u A.right_u p' s' a' x' in
       let z : ⊥ = omega arith in z)
-  by_kind p p' e (a-border s i a l x) (a-border s' i' a' l' x') =
-      let d = sym (vertex-border n h E t A.right_t p s i a x) ∙ e ∙ vertex-border n h E u A.right_u p' s' i' a' x' in
+  by_kind p p' e (a_border s i a l x) (a_border s' i' a' l' x') =
+      let d = sym (vertex_border n h E t A.right_t p s i a x) ∙ e ∙ vertex_border n h E u A.right_u p' s' i' a' x' in
       let c = A.edges_apart s (turned n (t.forth s) i) s' (turned n (u.forth s') i') a a' (place_t s i l) (place_u s' i' l') d in
       let m : suc i' ≡ suc n - suc i = ends_meet n i i' (t.forth s) (u.forth s') l l' c.1 (A.against s s' a a' c.0) in
       on_edge s s' (suc i) a a' (omega arith) l x (x' ∙ ap (λ v. spot 0 s' v) m) c.0
-  by_kind p p' e (a-border s i a l x) (within w') =
-      absurd (A.edge-inner_u s (turned n (t.forth s) i) a (place_t s i l)
-      (subst (λ (v : ℕ). 1 ≤ occ v (vertices u.inner)) (sym e ∙ vertex-border n h E t A.right_t p s i a x) (vertex-within n h E u A.right_u p' w')))
-  by_kind p p' e (within w) (a-corner s' a' x') =
-      absurd (let lo = A.point-u s' a' in
-      let hi = A.inner_high_t (patch_vertex n E t p) (vertex-within n h E t A.right_t p w) in
-      let d = e ∙ vertex-corner n h E u A.right_u p' s' a' x' in
+  by_kind p p' e (a_border s i a l x) (within w') =
+      absurd (A.edge_inner_u s (turned n (t.forth s) i) a (place_t s i l)
+      (subst (λ (v : ℕ). 1 ≤ occ v (vertices u.inner)) (sym e ∙ vertex_border n h E t A.right_t p s i a x) (vertex_within n h E u A.right_u p' w')))
+  by_kind p p' e (within w) (a_corner s' a' x') =
+      absurd (let lo = A.point_u s' a' in
+      let hi = A.inner_high_t (patch_vertex n E t p) (vertex_within n h E t A.right_t p w) in
+      let d = e ∙ vertex_corner n h E u A.right_u p' s' a' x' in
       let z : ⊥ = omega arith in z)
-  by_kind p p' e (within w) (a-border s' i' a' l' x') =
-      absurd (A.edge-inner_t s' (turned n (u.forth s') i') a' (place_u s' i' l')
-      (subst (λ (v : ℕ). 1 ≤ occ v (vertices t.inner)) (e ∙ vertex-border n h E u A.right_u p' s' i' a' x') (vertex-within n h E t A.right_t p w)))
+  by_kind p p' e (within w) (a_border s' i' a' l' x') =
+      absurd (A.edge_inner_t s' (turned n (u.forth s') i') a' (place_u s' i' l')
+      (subst (λ (v : ℕ). 1 ≤ occ v (vertices t.inner)) (e ∙ vertex_border n h E u A.right_u p' s' i' a' x') (vertex_within n h E t A.right_t p w)))
   by_kind p p' e (within w) (within w') =
       absurd (A.inner_apart (patch_vertex n E u p')
-      (subst (λ (v : ℕ). 1 ≤ occ v (vertices t.inner)) e (vertex-within n h E t A.right_t p w))
-      (vertex-within n h E u A.right_u p' w'))
+      (subst (λ (v : ℕ). 1 ≤ occ v (vertices t.inner)) e (vertex_within n h E t A.right_t p w))
+      (vertex_within n h E u A.right_u p' w'))
 
   pub patches_meet : Meet n (patch_vertex n E t) (patch_vertex n E u)
   patches_meet =
@@ -107,10 +107,10 @@ pub sides-++ : (l m : List (Face ℕ)) → face_sides (l ++ m) ≡ face_sides l 
 sides-++ [] m = refl
 sides-++ (x ∷ l) m = ap (λ k. (x.0, x.1) ∷ (x.1, x.2) ∷ (x.2, x.0) ∷ k) (sides-++ l m)
 
-pub all-sides : (n P : ℕ) (E : ℕ → List ℕ) (ts : List Patch) → AllPlaced n P E ts → face_sides (all_faces n E ts) ≡ total (spot_sides n) (vertices_of n E ts)
-all-sides n P E [] a = refl
-all-sides n P E (t ∷ ts) a =
-    sides-++ (patch_faces n E t) (all_faces n E ts) ∙ ap₂ (λ x y. x ++ y) (patch_sides n E t a.0.0) (all-sides n P E ts a.2)
+pub all_sides : (n P : ℕ) (E : ℕ → List ℕ) (ts : List Patch) → AllPlaced n P E ts → face_sides (all_faces n E ts) ≡ total (spot_sides n) (vertices_of n E ts)
+all_sides n P E [] a = refl
+all_sides n P E (t ∷ ts) a =
+    sides-++ (patch_faces n E t) (all_faces n E ts) ∙ ap₂ (λ x y. x ++ y) (patch_sides n E t a.0.0) (all_sides n P E ts a.2)
 
 module _ (n : ℕ) (h : n ≤ 12) (P : ℕ) (E : ℕ → List ℕ) where
   meet_all : (t : Patch) (us : List Patch) → PlacedAll n P E t us → MeetAll n (patch_vertex n E t) (vertices_of n E us)

@@ -5,7 +5,7 @@ use Prim.Native.Nat.{ℕ, zero, suc, ◌-◌, ◌≤◌, ◌<◌}
 use native.Mathlib.Omega.{arith}
 use lib.Dec.{T, leb, le→leb, leb→le}
 use Rattle.pattern.proofs.Meeting.{Shared, Meet}
-use Rattle.pattern.proofs.Neighbours.{CornerOf, Beside, Same, at-corner, on_edge}
+use Rattle.pattern.proofs.Neighbours.{CornerOf, Beside, Same, at_corner, on_edge}
 use Rattle.pattern.specs.Place.{BySide, next_side}
 use Rattle.pattern.specs.Spot.{Spot, spot, border_at, is_spot}
 
@@ -60,8 +60,8 @@ module _ (n : ℕ) (t u : BySide) (B : Beside t u) where
         k'<3 = s.k'<3;
         x_in = s.y_in;
         y_in = s.x_in;
-        is-p = s.is_q;
-        is_q = s.is-p;
+        is_p = s.is_q;
+        is_q = s.is_p;
         is_p' = s.is_q';
         is_q' = s.is_p';
       }
@@ -71,13 +71,13 @@ module _ (n : ℕ) (t u : BySide) (B : Beside t u) where
       (p q p' q' : Spot) (s s' x y : ℕ) → s < 3 → s' < 3 → x ≤ suc n → y ≤ suc n
       → p ≡ border_at n s x → q ≡ border_at n s y → p' ≡ border_at n s' (suc n - x) → q' ≡ border_at n s' (suc n - y) → Shared n p q p' q'
   along p q p' q' s s' x y a b c d e f g h =
-      record { k = s; k' = s'; x = x; y = y; k<3 = a; k'<3 = b; x_in = c; y_in = d; is-p = e; is_q = f; is_p' = g; is_q' = h }
+      record { k = s; k' = s'; x = x; y = y; k<3 = a; k'<3 = b; x_in = c; y_in = d; is_p = e; is_q = f; is_p' = g; is_q' = h }
 
   inner_far : (s' x : ℕ) (p' : Spot) → 1 ≤ x → x ≤ n → p' ≡ spot 0 s' (suc n - x) → p' ≡ border_at n s' (suc n - x)
   inner_far s' x p' l m e = let le : suc n - x ≤ n = omega arith in e ∙ sym (border_at_low n s' (suc n - x) le)
 
-  at-start : (s : ℕ) (p : Spot) → p ≡ spot 0 s 0 → p ≡ border_at n s 0
-  at-start s p e = let le : 0 ≤ n = omega arith in e ∙ sym (border_at_low n s 0 le)
+  at_start : (s : ℕ) (p : Spot) → p ≡ spot 0 s 0 → p ≡ border_at n s 0
+  at_start s p e = let le : 0 ≤ n = omega arith in e ∙ sym (border_at_low n s 0 le)
 
   at_end : (s w : ℕ) (p : Spot) → w ≡ next_side s → p ≡ spot 0 w 0 → p ≡ border_at n s (suc n)
   at_end s w p i e = e ∙ ap (λ v. spot 0 v 0) i ∙ sym (border_at_end n s)
@@ -102,13 +102,13 @@ module _ (n : ℕ) (t u : BySide) (B : Beside t u) where
     with_corner p q p' q' x w w' b b' l m ep ep' eq eq' c (it i) =
         let j : w' ≡ next_side s' = B.corners w' (next_side s') b' (next_side<3 s') (sym c ∙ ap t.corner i ∙ (B.opposite s s' a a' e).0) in
         along p q p' q' s s' x 0 a a' (omega arith) (omega arith) (ep ∙ sym (border_at_low n s x m))
-        (at-start s q (eq ∙ ap (λ v. spot 0 v 0) i)) (inner_far s' x p' l m ep')
+        (at_start s q (eq ∙ ap (λ v. spot 0 v 0) i)) (inner_far s' x p' l m ep')
         (far_of_start s' q' (at_end s' w' q' j eq'))
     with_corner p q p' q' x w w' b b' l m ep ep' eq eq' c (after i i') =
         let j : w' ≡ s' = B.corners w' s' b' a' (sym c ∙ ap t.corner i ∙ (B.opposite s s' a a' e).1) in
         along p q p' q' s s' x (suc n) a a' (omega arith) (omega arith) (ep ∙ sym (border_at_low n s x m))
         (at_end s w q i eq) (inner_far s' x p' l m ep')
-        (far_of_end s' q' (at-start s' q' (eq' ∙ ap (λ v. spot 0 v 0) j)))
+        (far_of_end s' q' (at_start s' q' (eq' ∙ ap (λ v. spot 0 v 0) j)))
     with_corner p q p' q' x w w' b b' l m ep ep' eq eq' c (ahead i i') =
         absurd (B.differ s a in_start in_end (record { m = w'; m<3 = b'; is = ap t.corner (sym i) ∙ c }))
 
@@ -139,25 +139,25 @@ module _ (n : ℕ) (t u : BySide) (B : Beside t u) where
   two_corners p q p' q' s s' w w' a a' b b' ep ep' eq eq' c d i (after j j') =
       absurd (B.ordered s s' a a' c (ap t.corner (sym i) ∙ d ∙ ap u.corner j))
   two_corners p q p' q' s s' w w' a a' b b' ep ep' eq eq' c d i (ahead j j') =
-      along p q p' q' s w' 0 (suc n) a b' (omega arith) (omega arith) (at-start s p ep) (at_end s w q i eq)
-      (far_of_start w' p' (at_end w' s' p' j' ep')) (far_of_end w' q' (at-start w' q' eq'))
+      along p q p' q' s w' 0 (suc n) a b' (omega arith) (omega arith) (at_start s p ep) (at_end s w q i eq)
+      (far_of_start w' p' (at_end w' s' p' j' ep')) (far_of_end w' q' (at_start w' q' eq'))
 
-  corners-shared :
+  corners_shared :
       (p q p' q' : Spot) (s s' w w' : ℕ) → s < 3 → s' < 3 → w < 3 → w' < 3
       → p ≡ spot 0 s 0 → p' ≡ spot 0 s' 0 → q ≡ spot 0 w 0 → q' ≡ spot 0 w' 0
       → t.corner s ≡ u.corner s' → t.corner w ≡ u.corner w' → (p ≡ q → ⊥) → Way s w → Shared n p q p' q'
-  corners-shared p q p' q' s s' w w' a a' b b' ep ep' eq eq' c d ne (it i) = absurd (ne (ep ∙ ap (λ v. spot 0 v 0) (sym i) ∙ sym eq))
-  corners-shared p q p' q' s s' w w' a a' b b' ep ep' eq eq' c d ne (after i i') =
+  corners_shared p q p' q' s s' w w' a a' b b' ep ep' eq eq' c d ne (it i) = absurd (ne (ep ∙ ap (λ v. spot 0 v 0) (sym i) ∙ sym eq))
+  corners_shared p q p' q' s s' w w' a a' b b' ep ep' eq eq' c d ne (after i i') =
       two_corners p q p' q' s s' w w' a a' b b' ep ep' eq eq' c d i (way s' w' a' b')
-  corners-shared p q p' q' s s' w w' a a' b b' ep ep' eq eq' c d ne (ahead i i') =
+  corners_shared p q p' q' s s' w w' a a' b b' ep ep' eq eq' c d ne (ahead i i') =
       swap p q p' q' (two_corners q p q' p' w w' s s' b b' a a' eq eq' ep ep' d c i' (way w' s' b' a'))
 
   pub shared : (p q p' q' : Spot) → Same n t u p p' → Same n t u q q' → (p ≡ q → ⊥) → Shared n p q p' q'
-  shared p q p' q' (at-corner s s' a a' ep ep' c) (at-corner w w' b b' eq eq' d) ne =
-      corners-shared p q p' q' s s' w w' a a' b b' ep ep' eq eq' c d ne (way s w a b)
-  shared p q p' q' (at-corner s s' a a' ep ep' c) (on_edge w w' y b b' l m eq eq' d) ne =
+  shared p q p' q' (at_corner s s' a a' ep ep' c) (at_corner w w' b b' eq eq' d) ne =
+      corners_shared p q p' q' s s' w w' a a' b b' ep ep' eq eq' c d ne (way s w a b)
+  shared p q p' q' (at_corner s s' a a' ep ep' c) (on_edge w w' y b b' l m eq eq' d) ne =
       swap p q p' q' (with_corner w w' b b' d q p q' p' y s s' a a' l m eq eq' ep ep' c (way w s b a))
-  shared p q p' q' (on_edge s s' x a a' l m ep ep' c) (at-corner w w' b b' eq eq' d) ne =
+  shared p q p' q' (on_edge s s' x a a' l m ep ep' c) (at_corner w w' b b' eq eq' d) ne =
       with_corner s s' a a' c p q p' q' x w w' b b' l m ep ep' eq eq' d (way s w a b)
   shared p q p' q' (on_edge s s' x a a' l m ep ep' c) (on_edge w w' y b b' l₂ m₂ eq eq' d) ne =
       with_edge s s' a a' c p q p' q' x w w' y b b' l m l₂ m₂ ep ep' eq eq' d (way s w a b)

@@ -9,6 +9,6 @@ pub data Sized {X : Type 0} : ℕ → Contents X → Type 0 where
   sized_2 : {x : X} → Sized 2 (one x)
   sized_3 : {a b c : X} → Sized 3 (three a b c)
   sized_4 : {a b c ab bc ca : X} → Sized 4 (six a b c ab bc ca)
-  sized-more :
+  sized_more :
       {k : ℕ} {a b c : X} {ab bc ca : ℕ → X} {t : Contents X} → Sized (suc (suc k)) t
       → Sized (suc (suc (suc (suc (suc k))))) (more a b c (suc (suc k)) ab bc ca t)

@@ -96,27 +96,27 @@ abbrev pub rising : ℕ → List (Side Spot) → Bool
 rising b [] = true
 rising b (s ∷ l) = both (leb b (key s)) (rising (suc (key s)) l)
 
-none-step : (b : Bool) (n : ℕ) → (T b → ⊥) → n ≡ 0 → tick b n ≡ 0
-none-step true n f e = absurd (f tt)
-none-step false n f e = e
+none_step : (b : Bool) (n : ℕ) → (T b → ⊥) → n ≡ 0 → tick b n ≡ 0
+none_step true n f e = absurd (f tt)
+none_step false n f e = e
 
-once-step : (b : Bool) (n : ℕ) → (T b → n ≡ 0) → n ≤ 1 → tick b n ≤ 1
-once-step true n f h = let e : n ≡ 0 = f tt in omega arith
-once-step false n f h = h
+once_step : (b : Bool) (n : ℕ) → (T b → n ≡ 0) → n ≤ 1 → tick b n ≤ 1
+once_step true n f h = let e : n ≡ 0 = f tt in omega arith
+once_step false n f h = h
 
 rising_none : (p q : Spot) (b : ℕ) (l : List (Side Spot)) → T (rising b l) → key (p, q) < b → count eq_spot p q l ≡ 0
 rising_none p q b [] t h = refl
 rising_none p q b (s ∷ l) t h =
     let le : b ≤ key s = leb→le b (key s) (both_left (leb b (key s)) (rising (suc (key s)) l) t) in
     let lt : key (p, q) < suc (key s) = omega arith in
-    none-step (same eq_spot p q s) (count eq_spot p q l) (λ e. let k : key (p, q) ≡ key s = ap key (same→eq p q s e) in omega arith)
+    none_step (same eq_spot p q s) (count eq_spot p q l) (λ e. let k : key (p, q) ≡ key s = ap key (same→eq p q s e) in omega arith)
     (rising_none p q (suc (key s)) l (both_right (leb b (key s)) (rising (suc (key s)) l) t) lt)
 
 rising_once : (p q : Spot) (b : ℕ) (l : List (Side Spot)) → T (rising b l) → count eq_spot p q l ≤ 1
 rising_once p q b [] t = omega arith
 rising_once p q b (s ∷ l) t =
     let r : T (rising (suc (key s)) l) = both_right (leb b (key s)) (rising (suc (key s)) l) t in
-    once-step (same eq_spot p q s) (count eq_spot p q l)
+    once_step (same eq_spot p q s) (count eq_spot p q l)
     (λ e. rising_none p q (suc (key s)) l r (let k : key (p, q) ≡ key s = ap key (same→eq p q s e) in omega arith))
     (rising_once p q (suc (key s)) l r)
 
@@ -135,15 +135,15 @@ in_order [] m = true
 in_order (s ∷ l) [] = false
 in_order (s ∷ l) (t ∷ m) = elim (same eq_spot s.0 s.1 t) [ true ↦ in_order l m | false ↦ in_order (s ∷ l) m ]
 
-at-step : (f : Side Spot → Bool) (p q : Spot) (s : Side Spot) (n : ℕ) (b : Bool) → (T b → (p, q) ≡ s) → T (f s) → (1 ≤ n → T (f (p, q))) → 1 ≤ tick b n → T (f (p, q))
-at-step f p q s n true e h r c = subst (λ (u : Side Spot). T (f u)) (sym (e tt)) h
-at-step f p q s n false e h r c = r c
+at_step : (f : Side Spot → Bool) (p q : Spot) (s : Side Spot) (n : ℕ) (b : Bool) → (T b → (p, q) ≡ s) → T (f s) → (1 ≤ n → T (f (p, q))) → 1 ≤ tick b n → T (f (p, q))
+at_step f p q s n true e h r c = subst (λ (u : Side Spot). T (f u)) (sym (e tt)) h
+at_step f p q s n false e h r c = r c
 
 -- a test that passes at each listed side passes at each side that occurs
 pub at : (f : Side Spot → Bool) (l : List (Side Spot)) → T (every f l) → (p q : Spot) → 1 ≤ count eq_spot p q l → T (f (p, q))
 at f [] t p q c = absurd (not-suc-le-zero c)
 at f (s ∷ l) t p q c =
-    at-step f p q s (count eq_spot p q l) (same eq_spot p q s) (same→eq p q s) (both_left (f s) (every f l) t)
+    at_step f p q s (count eq_spot p q l) (same eq_spot p q s) (same→eq p q s) (both_left (f s) (every f l) t)
     (at f l (both_right (f s) (every f l) t) p q) c
 
 in_step : (w : Side Spot → ℕ) (s u : Side Spot) (l m : List (Side Spot)) (b : Bool)

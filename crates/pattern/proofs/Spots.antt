@@ -12,7 +12,7 @@ use Rattle.pattern.specs.Laws.{FaceLaw, StripsLaw, SpotsSound}
 use Rattle.pattern.specs.Sides.{Side, count, joins, among, back, path_sides}
 use Rattle.pattern.specs.Spot.{Spot, eq_spot, spot_faces, spot_strips, spot_sides, closed_side, border_at, is_spot, ends, all_spots}
 use Rattle.pattern.proofs.Computed.{S, R, V, C, or_else, next_on, up_to, borders, split, passed, at_count}
-use Rattle.pattern.proofs.Count.{weigh, Alike, every, two_ways, both_left, both_right, both_in, count_alike, count-++, count-back, count_two_ways}
+use Rattle.pattern.proofs.Count.{weigh, Alike, every, two_ways, both_left, both_right, both_in, count_alike, count-++, count_back, count_two_ways}
 use Rattle.pattern.proofs.Sort.{alike, at_most_once, part_weighs, count_part, at}
 
 -- ---- what the tests say, in counts
@@ -24,7 +24,7 @@ module _ (n : ℕ) (h : n ≤ 12) (p q : Spot) where
   s_paired =
       let e : count eq_spot p q (S n ++ back (R n)) ≡ count eq_spot p q (back (S n) ++ R n)
       = count_alike eq_spot (S n ++ back (R n)) (back (S n) ++ R n) (alike (S n ++ back (R n)) (back (S n) ++ R n) (passed n h).paired_is) p q in
-      omega (arith, count-++ eq_spot p q (S n) (back (R n)), count-++ eq_spot p q (back (S n)) (R n), count-back eq_spot p q (S n), count-back eq_spot p q (R n))
+      omega (arith, count-++ eq_spot p q (S n) (back (R n)), count-++ eq_spot p q (back (S n)) (R n), count_back eq_spot p q (S n), count_back eq_spot p q (R n))
 
   pub s_apart : joins eq_spot p q (R n) + joins eq_spot p q (C n) ≤ 1
   s_apart =

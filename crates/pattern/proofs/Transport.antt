@@ -62,9 +62,9 @@ tick_true : (b : Bool) (n : ℕ) → T b → 1 ≤ tick b n
 tick_true true n t = omega arith
 tick_true false n t = absurd t
 
-tick-more : (b : Bool) (n : ℕ) → 1 ≤ n → 1 ≤ tick b n
-tick-more true n h = omega arith
-tick-more false n h = h
+tick_more : (b : Bool) (n : ℕ) → 1 ≤ n → 1 ≤ tick b n
+tick_more true n h = omega arith
+tick_more false n h = h
 
 same_refl : (s : Side Spot) → T (same eq_spot s.0 s.1 s)
 same_refl s = both_in (eq_spot s.0 s.0) (eq_spot s.1 s.1) (eq_spot_refl s.0) (eq_spot_refl s.1)
@@ -87,7 +87,7 @@ from_step f P Q s l true m e r h =
     }
 from_step f P Q s l false m e r h =
     let o : From f P Q l = r h in
-    record { p = o.p; q = o.q; is_P = o.is_P; is_Q = o.is_Q; occurs = tick-more (same eq_spot o.p o.q s) (count eq_spot o.p o.q l) o.occurs }
+    record { p = o.p; q = o.q; is_P = o.is_P; is_Q = o.is_Q; occurs = tick_more (same eq_spot o.p o.q s) (count eq_spot o.p o.q l) o.occurs }
 
 pub from : (f : Spot → ℕ) (P Q : ℕ) (l : List (Side Spot)) → 1 ≤ count eqb P Q (map (map_side f) l) → From f P Q l
 from f P Q [] h = absurd (let z : ⊥ = omega arith in z)

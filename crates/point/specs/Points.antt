@@ -42,10 +42,10 @@ minus_one = from_bits binary32 0xbf800000
 
 -- fin s m (negsuc k) is m / 2 ^ (k + 1), negative where s is true
 pub record Literals : Type 0 where
-  pub nought-is : nought ≡ fin false 0 (pos 0)
+  pub nought_is : nought ≡ fin false 0 (pos 0)
   pub half_is : half ≡ fin false 1 (negsuc 0)
   pub half_root_is : half_root ≡ fin false 14529495 (negsuc 23)
-  pub one-is : one ≡ fin false 1 (pos 0)
+  pub one_is : one ≡ fin false 1 (pos 0)
   pub minus_half_is : minus_half ≡ neg half
   pub minus_half_root_is : minus_half_root ≡ neg half_root
   pub minus_one_is : minus_one ≡ neg one

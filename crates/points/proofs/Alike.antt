@@ -22,7 +22,7 @@ use Rattle.points.specs.Calculating.{Meaning, calculated}
 use Rattle.points.specs.Places.{corner_point, edge_point, filled, side_point, contents_points, point_at, PlacedAs}
 use Rattle.points.specs.Promises.{Both, BothFace, SameBase, point_faces}
 use Rattle.mesh.proofs.Placed.{patch}
-use Rattle.points.proofs.Where.{points-placed}
+use Rattle.points.proofs.Where.{points_placed}
 
 -- ---- contents with R between their names
 data Like {X Y : Type 0} (R : X → Y → Type 0) : Contents X → Contents Y → Type 0 where
@@ -112,12 +112,12 @@ joins_cond : (P : ℕ) (b : Bool) (u v : Use) → Joins P u → Joins P v → Jo
 joins_cond P true u v h k = h
 joins_cond P false u v h k = k
 
-first-joins : (P D : ℕ) (e : ℕ) (ts : List Triangle) → 0 < P → Each (Below P D) ts → Joins P (first_use e (uses ts))
-first-joins P D e [] z b = (z, z)
-first-joins P D e (t ∷ ts) z b =
+first_joins : (P D : ℕ) (e : ℕ) (ts : List Triangle) → 0 < P → Each (Below P D) ts → Joins P (first_use e (uses ts))
+first_joins P D e [] z b = (z, z)
+first_joins P D e (t ∷ ts) z b =
     joins_cond P (eqb e t.ab) _ _ (b.0.a<P, b.0.b<P)
     (joins_cond P (eqb e t.bc) _ _ (b.0.b<P, b.0.c<P)
-    (joins_cond P (eqb e t.ca) _ _ (b.0.c<P, b.0.a<P) (first-joins P D e ts z b.1)))
+    (joins_cond P (eqb e t.ca) _ _ (b.0.c<P, b.0.a<P) (first_joins P D e ts z b.1)))
 
 module _ {Point Frac : Type 0} (share : ℕ → ℕ → Frac) (blank : Point) (R : Point → Point → Type 0) (M M' : Meaning Point Frac) (S : SameBase share R M M') where
   filled_like :
@@ -151,7 +151,7 @@ module _ {Point Frac : Type 0} (share : ℕ → ℕ → Frac) (blank : Point) (R
     edge_like n e i =
         let u : Use = first_use e (uses M.triangles) in
         let j : Joins (length M.points) (first_use e (uses M.triangles))
-        = first-joins (length M.points) M.edges e M.triangles (let z = A.sizes.points.0 in let y : 0 < length M.points = omega arith in y) A.below in
+        = first_joins (length M.points) M.edges e M.triangles (let z = A.sizes.points.0 in let y : 0 < length M.points = omega arith in y) A.below in
         subst
         (λ (ts : List Triangle). R (edge_point share blank M n e i)
         (M'.between (corner_point blank M' (first_use e (uses ts)).start) (corner_point blank M' (first_use e (uses ts)).stop) (share i n)))
@@ -233,15 +233,15 @@ buffers_like Point Frac R share blank M M' N N' f f' S A r r' e lf lf' =
     let I' : Inv (length M'.points) M'.edges (length ts') N' = reached_inv (length M'.points) M'.edges ts' N' r' in
     let F : List Point = calculated share blank M N f in
     let F' : List Point = calculated share blank M' N' f' in
-    let K = points-placed Point Frac share blank M N f A r lf in
-    let K' = points-placed Point Frac share blank M' N' f' A' r' lf' in
+    let K = points_placed Point Frac share blank M N f A r lf in
+    let K' = points_placed Point Frac share blank M' N' f' A' r' lf' in
     let h1 : Each (PlacedAs share blank M' F' N.n (edge_of N')) (patches ts' N')
     = subst (λ (k : ℕ). Each (PlacedAs share blank M' F' k (edge_of N')) (patches ts' N')) (sym e) K'.spots in
     let h' : Each (PlacedAs share blank M' F' N.n (edge_of N')) (patches ts N')
     = subst (λ (k : List Triangle). Each (PlacedAs share blank M' F' N.n (edge_of N')) (patches k N')) (sym S.triangles) h1 in
-    let z' : length N'.contents ≡ length ts = I'.contents-count ∙ ap length (sym S.triangles) in
+    let z' : length N'.contents ≡ length ts = I'.contents_count ∙ ap length (sym S.triangles) in
     let right' : Each (OfCount N.n) N'.contents = subst (λ (k : ℕ). Each (OfCount k) N'.contents) (sym e) I'.right in
     let l : List (Face Point) = map (map_face (λ x. get_or F x blank)) (all_faces N.n (edge_of N) (patches ts N)) in
     subst (λ (k : List Triangle). Both (BothFace R) l (map (map_face (λ x. get_or F' x blank)) (all_faces N'.n (edge_of N') (patches k N')))) S.triangles
     (subst (λ (k : ℕ). Both (BothFace R) l (map (map_face (λ x. get_or F' x blank)) (all_faces k (edge_of N') (patches ts N')))) e
-    (patches_like share blank R M M' S A N.n I.small (edge_of N) (edge_of N') F F' [] ts N.contents N'.contents I.contents-count z' A.below I.right right' K.spots h'))
+    (patches_like share blank R M M' S A N.n I.small (edge_of N) (edge_of N') F F' [] ts N.contents N'.contents I.contents_count z' A.below I.right right' K.spots h'))

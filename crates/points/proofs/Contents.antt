@@ -9,7 +9,7 @@ use Rattle.pattern.proofs.Fresh.{ring_list-map, contents_list-map}
 use Rattle.pattern.proofs.Link.{all}
 use Rattle.pattern.proofs.Natural.{join}
 use Rattle.pattern.proofs.Sort.{eq_spot→eq}
-use Rattle.pattern.proofs.Sized.{Sized, sized_0, sized_1, sized_2, sized_3, sized_4, sized-more}
+use Rattle.pattern.proofs.Sized.{Sized, sized_0, sized_1, sized_2, sized_3, sized_4, sized_more}
 use Rattle.shape.specs.Lists.{Each}
 use Rattle.pattern.proofs.Occurrences.{hits_yes, occ-cons, occ-++}
 use Rattle.points.specs.Calculating.{Meaning, Write, middle, along, tip_writes, contents_writes}
@@ -18,15 +18,15 @@ use Rattle.points.proofs.Writes.{run_of, in_run, all_places, Ready, Holds}
 
 -- ---- what is written
 module _ (Point : Type 0) where
-  pub places-contents :
+  pub places_contents :
       (m : ℕ) (ab bc ca : ℕ → ℕ) (s : Contents ℕ) → all_places (contents_writes {Point = Point} m ab bc ca s) ≡ contents_list s
-  places-contents m ab bc ca none = refl
-  places-contents m ab bc ca (one x) = refl
-  places-contents m ab bc ca (three a b c) = refl
-  places-contents m ab bc ca (six a b c sab sbc sca) = refl
-  places-contents m ab bc ca (more a b c L sab sbc sca s) =
+  places_contents m ab bc ca none = refl
+  places_contents m ab bc ca (one x) = refl
+  places_contents m ab bc ca (three a b c) = refl
+  places_contents m ab bc ca (six a b c sab sbc sca) = refl
+  places_contents m ab bc ca (more a b c L sab sbc sca s) =
       ap (λ l. a ∷ b ∷ c ∷ l)
-      (ap (λ l. run_of sab 0 L ++ (run_of sbc 0 L ++ (run_of sca 0 L ++ l))) (places-contents L sab sbc sca s)
+      (ap (λ l. run_of sab 0 L ++ (run_of sbc 0 L ++ (run_of sca 0 L ++ l))) (places_contents L sab sbc sca s)
       ∙ sym (append_assoc (run_of sab 0 L) (run_of sbc 0 L ++ run_of sca 0 L) (contents_list s)
       ∙ ap (λ l. run_of sab 0 L ++ l) (append_assoc (run_of sbc 0 L) (run_of sca 0 L) (contents_list s))))
 
@@ -89,7 +89,7 @@ module _ (Point : Type 0) where
           ),
         ),
       )
-  ready_contents seen m ab bc ca s (sized-more {k = k} {a = a} {b = b} {c = c} {ab = sab} {bc = sbc} {ca = sca} {t = t} z) kab kbc kca =
+  ready_contents seen m ab bc ca s (sized_more {k = k} {a = a} {b = b} {c = c} {ab = sab} {bc = sbc} {ca = sca} {t = t} z) kab kbc kca =
       let L : ℕ = suc (suc k) in
       let tips : List ℕ = c ∷ b ∷ a ∷ seen in
       let s1 : List ℕ = run_of sab 0 L ++ tips in
@@ -134,32 +134,32 @@ module _ {X : Type 0} (f : ℕ → X) where
       ∙ ap₂ (λ x y. x ++ y) (r ab AB eab) (map-append f (run_of bc 0 m) (run_of ca 0 m) ∙ ap₂ (λ x y. x ++ y) (r bc BC ebc) (r ca CA eca)))))
 
 module _ {Point Frac : Type 0} (share : ℕ → ℕ → Frac) (blank : Point) (M : Meaning Point Frac) where
-  pub filled-sized : (n : ℕ) (ab bc ca : ℕ → Point) → Sized n (filled share blank M n ab bc ca)
-  filled-sized zero ab bc ca = sized_0
-  filled-sized (suc zero) ab bc ca = sized_1
-  filled-sized (suc (suc zero)) ab bc ca = sized_2
-  filled-sized (suc (suc (suc zero))) ab bc ca = sized_3
-  filled-sized (suc (suc (suc (suc zero)))) ab bc ca = sized_4
-  filled-sized (suc (suc (suc (suc (suc k))))) ab bc ca = sized-more (filled-sized (suc (suc k)) _ _ _)
+  pub filled_sized : (n : ℕ) (ab bc ca : ℕ → Point) → Sized n (filled share blank M n ab bc ca)
+  filled_sized zero ab bc ca = sized_0
+  filled_sized (suc zero) ab bc ca = sized_1
+  filled_sized (suc (suc zero)) ab bc ca = sized_2
+  filled_sized (suc (suc (suc zero))) ab bc ca = sized_3
+  filled_sized (suc (suc (suc (suc zero)))) ab bc ca = sized_4
+  filled_sized (suc (suc (suc (suc (suc k))))) ab bc ca = sized_more (filled_sized (suc (suc k)) _ _ _)
 
   module _ (F : List Point) where
     abbrev on : ℕ → Point
     on x = get_or F x blank
 
-    pub filled-points :
+    pub filled_points :
         (m : ℕ) (ab bc ca : ℕ → ℕ) (AB BC CA : ℕ → Point) (s : Contents ℕ) → Sized m s → Each (Holds share blank M F) (contents_writes m ab bc ca s)
         → ((i : ℕ) → i < m → on (ab i) ≡ AB i) → ((i : ℕ) → i < m → on (bc i) ≡ BC i) → ((i : ℕ) → i < m → on (ca i) ≡ CA i)
         → map on (contents_list s) ≡ contents_list (filled share blank M m AB BC CA)
-    filled-points m ab bc ca AB BC CA s sized_0 h eab ebc eca = refl
-    filled-points m ab bc ca AB BC CA s sized_1 h eab ebc eca = refl
-    filled-points m ab bc ca AB BC CA s sized_2 h eab ebc eca =
+    filled_points m ab bc ca AB BC CA s sized_0 h eab ebc eca = refl
+    filled_points m ab bc ca AB BC CA s sized_1 h eab ebc eca = refl
+    filled_points m ab bc ca AB BC CA s sized_2 h eab ebc eca =
         ap (λ x. x ∷ []) (h.0 ∙ ap₂ M.half (eab 0 (omega arith)) (ebc 1 (omega arith)))
-    filled-points m ab bc ca AB BC CA s sized_3 h eab ebc eca =
+    filled_points m ab bc ca AB BC CA s sized_3 h eab ebc eca =
         let one : 1 < 3 = omega arith in
         ap₂ (λ x l. x ∷ l) (h.0 ∙ ap₂ M.half (eab 1 one) (eca 1 one))
         (ap₂ (λ x l. x ∷ l) (h.1.0 ∙ ap₂ M.half (ebc 1 one) (eab 1 one))
         (ap (λ x. x ∷ []) (h.1.1.0 ∙ ap₂ M.half (eca 1 one) (ebc 1 one))))
-    filled-points m ab bc ca AB BC CA s sized_4 h eab ebc eca =
+    filled_points m ab bc ca AB BC CA s sized_4 h eab ebc eca =
         let one : 1 < 4 = omega arith in
         let two : 2 < 4 = omega arith in
         let ea = h.0 ∙ ap₂ M.half (eab 1 one) (eca 2 two) in
@@ -169,7 +169,7 @@ module _ {Point Frac : Type 0} (share : ℕ → ℕ → Frac) (blank : Point) (M
         (ap₂ (λ x l. x ∷ l) (h.1.1.1.0 ∙ ap₂ M.half ea eb)
         (ap₂ (λ x l. x ∷ l) (h.1.1.1.1.0 ∙ ap₂ M.half eb ec)
         (ap (λ x. x ∷ []) (h.1.1.1.1.1.0 ∙ ap₂ M.half ec ea))))))
-    filled-points m ab bc ca AB BC CA s (sized-more {k = k} {a = a} {b = b} {c = c} {ab = sab} {bc = sbc} {ca = sca} {t = t} z) h eab ebc eca =
+    filled_points m ab bc ca AB BC CA s (sized_more {k = k} {a = a} {b = b} {c = c} {ab = sab} {bc = sbc} {ca = sca} {t = t} z) h eab ebc eca =
         let L : ℕ = suc (suc k) in
         let one : 1 < suc (suc (suc L)) = omega arith in
         let lt : suc L < suc (suc (suc L)) = omega arith in
@@ -187,7 +187,7 @@ module _ {Point Frac : Type 0} (share : ℕ → ℕ → Frac) (blank : Point) (M
         map-append on (ring_list L a b c sab sbc sca) (contents_list t)
         ∙ ap₂ (λ x y. x ++ y)
         (map_ring on L a b c sab sbc sca A B C (side A B) (side B C) (side C A) ea eb ec fab fbc fca)
-        (filled-points L sab sbc sca (side A B) (side B C) (side C A) t z h.1.1.1.1.1.1 fab fbc fca)
+        (filled_points L sab sbc sca (side A B) (side B C) (side C A) t z h.1.1.1.1.1.1 fab fbc fca)
 
 -- ---- spot by spot
 module _ {X : Type 0} where

@@ -18,7 +18,7 @@ use Rattle.mesh.specs.Numbering.{Numbering, edge_of, flat, inners}
 use Rattle.mesh.specs.Faces.{by_side, forward, patches_from}
 use Rattle.mesh.proofs.Beside.{find}
 use Rattle.mesh.proofs.Invariant.{Inv}
-use Rattle.mesh.proofs.Placed.{run-occ}
+use Rattle.mesh.proofs.Placed.{run_occ}
 use Rattle.pattern.proofs.Occurrences.{hits_yes, hits_no, Same?, is, isnt, same?, occ-cons, occ-++, occ_alike, range_in, range_above}
 use Rattle.points.specs.Places.{AtSpot}
 use Rattle.points.proofs.Contents.{all_names}
@@ -95,9 +95,9 @@ module _ (P D : ℕ) (ts : List Triangle) (A : Accepted P D ts) (N : Numbering) 
     here fs h =
         let R : List ℕ = ring_list N.n t.a t.b t.c (rd 0) (rd 1) (rd 2) in
         let names = all_names N.n t.a t.b t.c (rd 0) (rd 1) (rd 2) (view g) (sized N.n g r) in
-        let q0 = run-occ P D ts A N I es t g 0 b.ab<E x in
-        let q1 = run-occ P D ts A N I es t g 1 b.bc<E x in
-        let q2 = run-occ P D ts A N I es t g 2 b.ca<E x in
+        let q0 = run_occ P D ts A N I es t g 0 b.ab<E x in
+        let q1 = run_occ P D ts A N I es t g 1 b.bc<E x in
+        let q2 = run_occ P D ts A N I es t g 2 b.ca<E x in
         let o1 = occ-++ x (t.a ∷ t.b ∷ t.c ∷ []) (run 0 ++ (run 1 ++ run 2)) in
         let o2 = occ-++ x (run 0) (run 1 ++ run 2) in
         let o3 = occ-++ x (run 1) (run 2) in
@@ -107,10 +107,10 @@ module _ (P D : ℕ) (ts : List Triangle) (A : Accepted P D ts) (N : Numbering) 
         let s = spotted (patch_vertex N.n (edge_of N) (patch es t g)) (all_spots N.n) x (subst (λ (l : List ℕ). 1 ≤ occ x l) (sym names) many) in
         record { t = patch es t g; there = inl refl; p = s.p; its = s.its; is = s.is }
 
-  three-occ : (x a b c : ℕ) → (x ≡ a) ⊎ ((x ≡ b) ⊎ (x ≡ c)) → 1 ≤ occ x (a ∷ b ∷ c ∷ [])
-  three-occ x a b c (inl e) = omega (arith, occ-cons x a (b ∷ c ∷ []), hits_yes x a e)
-  three-occ x a b c (inr (inl e)) = omega (arith, occ-cons x a (b ∷ c ∷ []), occ-cons x b (c ∷ []), hits_yes x b e)
-  three-occ x a b c (inr (inr e)) = omega (arith, occ-cons x a (b ∷ c ∷ []), occ-cons x b (c ∷ []), occ-cons x c [], hits_yes x c e)
+  three_occ : (x a b c : ℕ) → (x ≡ a) ⊎ ((x ≡ b) ⊎ (x ≡ c)) → 1 ≤ occ x (a ∷ b ∷ c ∷ [])
+  three_occ x a b c (inl e) = omega (arith, occ-cons x a (b ∷ c ∷ []), hits_yes x a e)
+  three_occ x a b c (inr (inl e)) = omega (arith, occ-cons x a (b ∷ c ∷ []), occ-cons x b (c ∷ []), hits_yes x b e)
+  three_occ x a b c (inr (inr e)) = omega (arith, occ-cons x a (b ∷ c ∷ []), occ-cons x b (c ∷ []), occ-cons x c [], hits_yes x c e)
 
   on_use : (x e : ℕ) (v u : Use) → v ≡ u → 1 ≤ occ x (edge_of N v.edge) → 1 ≤ occ x (edge_of N u.edge)
   on_use x e v u q h = subst (λ (w : Use). 1 ≤ occ x (edge_of N w.edge)) q h
@@ -142,9 +142,9 @@ module _ (P D : ℕ) (ts : List Triangle) (A : Accepted P D ts) (N : Numbering) 
       inner (no c) h k = on (k (inr (inr (omega (arith, occ-++ x (vertices g) (inners gs))))))
 
       go : Where x (t ∷ us) (g ∷ gs) → (Where x us gs → Within x (patches_from (t.ca ∷ t.bc ∷ t.ab ∷ es) us gs)) → Within x (patches_from es (t ∷ us) (g ∷ gs))
-      go (inl (inl e)) k = let y = three-occ x t.a t.b t.c (inl e) in put (omega arith)
-      go (inl (inr (inl e))) k = let y = three-occ x t.a t.b t.c (inr (inl e)) in put (omega arith)
-      go (inl (inr (inr (inl e)))) k = let y = three-occ x t.a t.b t.c (inr (inr e)) in put (omega arith)
+      go (inl (inl e)) k = let y = three_occ x t.a t.b t.c (inl e) in put (omega arith)
+      go (inl (inr (inl e))) k = let y = three_occ x t.a t.b t.c (inr (inl e)) in put (omega arith)
+      go (inl (inr (inr (inl e)))) k = let y = three_occ x t.a t.b t.c (inr (inr e)) in put (omega arith)
       go (inl (inr (inr (inr i)))) k = on (k (inl i))
       go (inr (inl q)) k = edge q.0 q.1 q.2 k
       go (inr (inr h)) k = inner (dec_le 1 (occ x (vertices g))) h k
@@ -173,5 +173,5 @@ module _ (P D : ℕ) (ts : List Triangle) (A : Accepted P D ts) (N : Numbering) 
 
   pub covered : (x : ℕ) → x < N.total → AtSpot ts N x
   covered x l =
-      let w = within x [] ts N.contents I.contents-count A.below I.right (somewhere x l) in
+      let w = within x [] ts N.contents I.contents_count A.below I.right (somewhere x l) in
       record { t = w.t; there = w.there; p = w.p; its = w.its; is = w.is }

@@ -2,9 +2,9 @@
 use Rattle.std.proofs.Common.{refl, ap₂, arith}
 use Rattle.mesh.specs.Examples.{square}
 use Rattle.mesh.specs.Numbering.{made}
-use Rattle.questions.proofs.Verdicts.{answer-verdict}
-use Rattle.mesh.proofs.Making.{accepted-made}
-use Rattle.points.specs.Examples.{Examples, between, half, square-calls}
+use Rattle.questions.proofs.Verdicts.{answer_verdict}
+use Rattle.mesh.proofs.Making.{accepted_made}
+use Rattle.points.specs.Examples.{Examples, between, half, square_calls}
 
 pub examples : Examples
 examples =
@@ -12,24 +12,24 @@ examples =
       ab0 = refl;
       one = refl;
       beyond = refl;
-      three-b = refl;
-      more-a = refl;
-      more-ab = refl;
+      three_b = refl;
+      more_a = refl;
+      more_ab = refl;
       more_in = refl;
       none_written = λ f. refl;
       histories = refl;
       backward = refl;
-      square-after = refl;
-      square-added = refl;
-      square-run =
+      square_after = refl;
+      square_added = refl;
+      square_run =
           record {
             n = 1;
             first = made 4 5 2 1;
-            making = (accepted-made 4 5 square 1 (answer-verdict 4 5 square) (omega arith)).passes;
-            calls = square-calls;
+            making = (accepted_made 4 5 square 1 (answer_verdict 4 5 square) (omega arith)).passes;
+            calls = square_calls;
             leads = refl;
           };
-      square-same =
+      square_same =
           record {
             points = (refl, (refl, (refl, (refl, tt))));
             triangles = refl;

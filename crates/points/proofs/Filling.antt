@@ -49,10 +49,10 @@ module _ {Point Data State : Type 0} (generate : Generator Point Data State) (po
           ∙ ap (answer generate point s) (sym e)
       go (isnt e y) r = r (omega arith) (omega arith)
 
-filled-stands :
+filled_stands :
     {Point Data State : Type 0} (generate : Generator Point Data State) (point : ℕ → Point) (total : ℕ) (s : State) (l : List Data) → total ≤ length l
     → Filled generate point total s l (filled generate point total s l).0 (filled generate point total s l).1
-filled-stands generate point total s l h =
+filled_stands generate point total s l h =
     record {
       long = from_long generate point s 0 total l;
       vertex = λ i d b. from_at generate point s 0 total l i d (omega arith) (omega arith) (omega arith);
@@ -65,4 +65,4 @@ filling_stands Point Data State generate blank ts N F s l e =
     let r : List Data × State = filled generate (at blank F) N.total s l in
     let long : N.total ≤ length l = leb→le N.total (length l) (yes (leb N.total (length l)) (DataTooShort N.total (length l)) e) in
     subst (λ o. Filled generate (at blank F) N.total s l (unless_refused o r (l, s)).0 (unless_refused o r (l, s)).1) (sym e)
-    (filled-stands generate (at blank F) N.total s l long)
+    (filled_stands generate (at blank F) N.total s l long)

@@ -9,18 +9,18 @@ use Rattle.shape.specs.Listing.{share as float_share}
 use Rattle.mesh.specs.Faces.{faces, face_numbers, triples, sides, SideOnce}
 use Rattle.mesh.specs.Sinks.{closed_after}
 use Rattle.mesh.specs.Strips.{strips, offset_by, shown_less, shown, ShownOnce}
-use Rattle.mesh.proofs.Counted.{vertices-once}
+use Rattle.mesh.proofs.Counted.{vertices_once}
 use Rattle.mesh.proofs.Sinks.{sinks_filled}
-use Rattle.mesh.proofs.Whole.{sides-once, strips-once}
+use Rattle.mesh.proofs.Whole.{sides_once, strips_once}
 use Rattle.points.specs.Calculating.{calculated}
 use Rattle.points.specs.Promises.{Both, BothFace, point_faces, FixedBy, Placed, CountOfRuns, PlacedOfRuns, VerticesOfRuns, FacesOfRuns, StripsOfRuns, PointsOfRuns, Vec3AOfRuns}
 use Rattle.points.proofs.Alike.{buffers_like}
-use Rattle.points.proofs.Runs.{Kept, kept, counted, reached_count, accepted-base}
-use Rattle.points.proofs.Where.{points-placed}
+use Rattle.points.proofs.Runs.{Kept, kept, counted, reached_count, accepted_base}
+use Rattle.points.proofs.Where.{points_placed}
 
 pub vertices_of_runs : (Point Frac : Type 0) → VerticesOfRuns Point Frac
 vertices_of_runs Point Frac share blank M N F r =
-    vertices-once (length M.points) M.edges M.triangles (accepted-base share blank M N F r) N (kept share blank M N F r).reached
+    vertices_once (length M.points) M.edges M.triangles (accepted_base share blank M N F r) N (kept share blank M N F r).reached
 
 pub count_of_runs : (Point Frac : Type 0) → CountOfRuns Point Frac
 count_of_runs Point Frac share blank M N F r =
@@ -30,7 +30,7 @@ pub placed_of_runs : (Point Frac : Type 0) → PlacedOfRuns Point Frac
 placed_of_runs Point Frac share blank M N F r =
     let K : Kept share blank M N F = kept share blank M N F r in
     let l : 3360 ≤ length K.before = let z = K.long in omega arith in
-    let c = points-placed Point Frac share blank M N K.before (accepted-base share blank M N F r) K.reached l in
+    let c = points_placed Point Frac share blank M N K.before (accepted_base share blank M N F r) K.reached l in
     subst (Placed share blank M N) (sym K.is) (record { long = c.long ∙ K.long; corner = c.corner; spots = c.spots })
 
 -- ---- faces
@@ -43,7 +43,7 @@ faces_of_runs Point Frac share blank M N F r room p q h =
     let ts : List Triangle = M.triangles in
     let e : face_sides (triples (face_numbers (faces ts N))) ≡ sides ts N = ap face_sides (told (faces ts N)) in
     subst (λ l. SideOnce ts N l p q) (sym e)
-    (sides-once (length M.points) M.edges ts (accepted-base share blank M N F r) N (kept share blank M N F r).reached p q (subst (λ l. 1 ≤ count eqb p q l) e h))
+    (sides_once (length M.points) M.edges ts (accepted_base share blank M N F r) N (kept share blank M N F r).reached p q (subst (λ l. 1 ≤ count eqb p q l) e h))
 
 -- ---- strips
 less_numbers : (offset : ℕ) (l : List ℕ) → map (λ x. x - offset) (map (λ x. x + offset) l) ≡ l
@@ -72,7 +72,7 @@ strips_of_runs Point Frac share blank M N F r offset s s' empty w l c p q =
     let ls : List (List ℕ) = offset_by offset (strips ts N) in
     let d : l ≡ ls = cancel s.closed l ls (sym c ∙ (sinks_filled ls s s' w).0.closed_is ∙ ap (λ m. s.closed ++ m) (closed_same s.last ls empty)) in
     let e : shown_less offset l ≡ shown ts N = ap (shown_less offset) d ∙ ap shown_by (less_strips offset (strips ts N)) in
-    subst (λ m. ShownOnce ts N m p q) (sym e) (strips-once (length M.points) M.edges ts (accepted-base share blank M N F r) N (kept share blank M N F r).reached p q)
+    subst (λ m. ShownOnce ts N m p q) (sym e) (strips_once (length M.points) M.edges ts (accepted_base share blank M N F r) N (kept share blank M N F r).reached p q)
 
 -- ---- points
 fixed_by : (Point Frac : Type 0) (share : ℕ → ℕ → Frac) (R : Point → Point → Type 0) → FixedBy Point Frac share R
@@ -83,7 +83,7 @@ fixed_by Point Frac share R blank M M' N N' F F' S h h' e =
     let lf' : 3360 ≤ length K'.before = let z = K'.long in omega arith in
     subst (λ (G : List Point). Both (BothFace R) (point_faces blank M N G) (point_faces blank M' N' F')) (sym K.is)
     (subst (λ (G : List Point). Both (BothFace R) (point_faces blank M N (calculated share blank M N K.before)) (point_faces blank M' N' G)) (sym K'.is)
-    (buffers_like Point Frac R share blank M M' N N' K.before K'.before S (accepted-base share blank M N F h) K.reached K'.reached e lf lf'))
+    (buffers_like Point Frac R share blank M M' N N' K.before K'.before S (accepted_base share blank M N F h) K.reached K'.reached e lf lf'))
 
 pub points_of_runs : (Point Frac : Type 0) → PointsOfRuns Point Frac
 points_of_runs Point Frac = (λ share. fixed_by Point Frac share (λ p q. p ≡ q), λ share same. fixed_by Point Frac share (λ p q. T (same p q)))

@@ -15,11 +15,11 @@ use Rattle.mesh.specs.Numbering.{Numbering, edge_of, flat, inners}
 use Rattle.mesh.specs.Faces.{by_side, forward, patches_from, patches}
 use Rattle.mesh.proofs.Firsts.{Seen?, old, new, seen?, firsts, firsts_below, firsts_one, first_or_later}
 use Rattle.mesh.proofs.Invariant.{Inv}
-use Rattle.mesh.proofs.Placed.{edge-long, some_edges}
+use Rattle.mesh.proofs.Placed.{edge_long, some_edges}
 use Rattle.pattern.proofs.Occurrences.{hits_yes, hits_no, Same?, is, isnt, same?, occ-cons, occ-++, occ_alike, range_in}
 use Rattle.points.specs.Calculating.{Write, along, point_writes, contents_writes, patches_writes}
 use Rattle.points.proofs.Writes.{run_of, places, all_places, Ready}
-use Rattle.points.proofs.Contents.{places-contents, Known, known_run, ready_contents}
+use Rattle.points.proofs.Contents.{places_contents, Known, known_run, ready_contents}
 
 module _ {Point : Type 0} where
   -- ---- lists of writes, one after the other
@@ -27,9 +27,9 @@ module _ {Point : Type 0} where
   seen_after seen [] = seen
   seen_after seen (w ∷ ws) = seen_after (places w ++ seen) ws
 
-  pub occ-after : (x : ℕ) (seen : List ℕ) (ws : List (Write Point)) → occ x (seen_after seen ws) ≡ occ x seen + occ x (all_places ws)
-  occ-after x seen [] = omega arith
-  occ-after x seen (w ∷ ws) = omega (arith, occ-after x (places w ++ seen) ws, occ-++ x (places w) seen, occ-++ x (places w) (all_places ws))
+  pub occ_after : (x : ℕ) (seen : List ℕ) (ws : List (Write Point)) → occ x (seen_after seen ws) ≡ occ x seen + occ x (all_places ws)
+  occ_after x seen [] = omega arith
+  occ_after x seen (w ∷ ws) = omega (arith, occ_after x (places w ++ seen) ws, occ-++ x (places w) seen, occ-++ x (places w) (all_places ws))
 
   pub after-++ : (seen : List ℕ) (ws vs : List (Write Point)) → seen_after seen (ws ++ vs) ≡ seen_after (seen_after seen ws) vs
   after-++ seen [] vs = refl
@@ -45,16 +45,16 @@ module _ {Point : Type 0} where
       omega (arith, places-++ x ws vs, occ-++ x (places w) (all_places (ws ++ vs)), occ-++ x (places w) (all_places ws))
 
   -- ---- the points
-  pub places-points : (i : ℕ) (ps : List Point) → all_places (point_writes i ps) ≡ range i (length ps)
-  places-points i [] = refl
-  places-points i (p ∷ ps) = ap (λ l. i ∷ l) (places-points (suc i) ps)
+  pub places_points : (i : ℕ) (ps : List Point) → all_places (point_writes i ps) ≡ range i (length ps)
+  places_points i [] = refl
+  places_points i (p ∷ ps) = ap (λ l. i ∷ l) (places_points (suc i) ps)
 
   pub ready_points : (seen : List ℕ) (i : ℕ) (ps : List Point) → Ready seen (point_writes i ps)
   ready_points seen i [] = tt
   ready_points seen i (p ∷ ps) = (tt, ready_points (i ∷ seen) (suc i) ps)
 
 known_after : {Point : Type 0} (xs : ℕ → ℕ) (m : ℕ) (seen : List ℕ) (ws : List (Write Point)) → Known seen xs m → Known (seen_after seen ws) xs m
-known_after xs m seen ws k i l = omega (arith, k i l, occ-after (xs i) seen ws)
+known_after xs m seen ws k i l = omega (arith, k i l, occ_after (xs i) seen ws)
 
 known_turned : (seen l : List ℕ) (n : ℕ) (b : Bool) → Known seen (λ i. get_or l i 0) n → Known seen (λ i. get_or l (turned n b i) 0) n
 known_turned seen l n true k i lt = k i lt
@@ -92,8 +92,8 @@ module _ (Point : Type 0) (n : ℕ) (E : ℕ → List ℕ) where
     abbrev Corners : List ℕ → Type 0
     Corners seen = (x : ℕ) → x < P → 1 ≤ occ x seen
 
-    corners-after : (seen : List ℕ) (ws : List (Write Point)) → Corners seen → Corners (seen_after seen ws)
-    corners-after seen ws c x l = omega (arith, c x l, occ-after x seen ws)
+    corners_after : (seen : List ℕ) (ws : List (Write Point)) → Corners seen → Corners (seen_after seen ws)
+    corners_after seen ws c x l = omega (arith, c x l, occ_after x seen ws)
 
     pub ready_patches :
         (D : ℕ) (seen es : List ℕ) (ts : List Triangle) (gs : List NumberedContents) → Each (Below P D) ts → Each (OfCount n) gs → Corners seen → EdgesKnown seen es
@@ -113,9 +113,9 @@ module _ (Point : Type 0) (n : ℕ) (E : ℕ → List ℕ) where
         let S2 : List ℕ = seen_after S1 W1 in
         let S3 : List ℕ = seen_after S2 W2 in
         let es3 : List ℕ = t.ca ∷ t.bc ∷ t.ab ∷ es in
-        let c1 = corners-after seen W0 c in
-        let c2 = corners-after S1 W1 c1 in
-        let c3 = corners-after S2 W2 c2 in
+        let c1 = corners_after seen W0 c in
+        let c2 = corners_after S1 W1 c1 in
+        let c3 = corners_after S2 W2 c2 in
         let k1 = known_use seen es u0 k in
         let k2 = known_use S1 (t.ab ∷ es) u1 k1 in
         let k3 = known_use S2 (t.bc ∷ t.ab ∷ es) u2 k2 in
@@ -139,13 +139,13 @@ module _ (Point : Type 0) (n : ℕ) (E : ℕ → List ℕ) where
         = sym (after-++ seen W0 (W1 ++ (W2 ++ C)) ∙ after-++ S1 W1 (W2 ++ C) ∙ after-++ S2 W2 C) in
         ready-++ seen (W0 ++ (W1 ++ (W2 ++ C))) (patches_writes n E (patches_from es3 ts gs)) front
         (subst (λ (s : List ℕ). Ready {Point = Point} s (patches_writes n E (patches_from es3 ts gs))) same
-        (ready_patches D (seen_after S3 C) es3 ts gs b.1 r.1 (corners-after S3 C c3)
+        (ready_patches D (seen_after S3 C) es3 ts gs b.1 r.1 (corners_after S3 C c3)
         (λ e h. known_after (λ i. get_or (E e) i 0) n S3 C (k3 e h))))
 
 -- ---- no place twice
 module _ (Point : Type 0) (P D : ℕ) (ts : List Triangle) (A : Accepted P D ts) (N : Numbering) (I : Inv P D (length ts) N) where
-  edge-run : (l : List ℕ) (n : ℕ) → length l ≡ n → run_of (λ i. get_or l i 0) 0 n ≡ l
-  edge-run l n e = ap (λ m. run_of (λ i. get_or l i 0) 0 m) (sym e) ∙ read_all l
+  edge_run : (l : List ℕ) (n : ℕ) → length l ≡ n → run_of (λ i. get_or l i 0) 0 n ≡ l
+  edge_run l n e = ap (λ m. run_of (λ i. get_or l i 0) 0 m) (sym e) ∙ read_all l
 
   abbrev on_edges : ℕ → ℕ → ℕ
   on_edges x e = occ x (edge_of N e)
@@ -156,14 +156,14 @@ module _ (Point : Type 0) (P D : ℕ) (ts : List Triangle) (A : Accepted P D ts)
   use_places x true u X l = omega arith
   use_places x false u X l =
       let r : List ℕ = run_of (λ i. get_or (edge_of N u.edge) i 0) 0 N.n in
-      omega (arith, occ-++ x r [], ap (occ x) (edge-run (edge_of N u.edge) N.n (edge-long P D ts A N I u.edge l)))
+      omega (arith, occ-++ x r [], ap (occ x) (edge_run (edge_of N u.edge) N.n (edge_long P D ts A N I u.edge l)))
 
-  patches-places :
+  patches_places :
       (x : ℕ) (es : List ℕ) (us : List Triangle) (gs : List NumberedContents) → Each (Below P D) us → Each (OfCount N.n) gs
       → occ x (all_places (patches_writes {Point = Point} N.n (edge_of N) (patches_from es us gs))) ≤ weigh (on_edges x) (firsts es (uses us)) + occ x (inners gs)
-  patches-places x es [] gs b r = omega arith
-  patches-places x es (t ∷ us) [] b r = omega arith
-  patches-places x es (t ∷ us) (g ∷ gs) b r =
+  patches_places x es [] gs b r = omega arith
+  patches_places x es (t ∷ us) [] b r = omega arith
+  patches_places x es (t ∷ us) (g ∷ gs) b r =
       let n : ℕ = N.n in
       let E : ℕ → List ℕ = edge_of N in
       let u0 : Use = walk t.ab t.a t.b in
@@ -182,8 +182,8 @@ module _ (Point : Type 0) (P D : ℕ) (ts : List Triangle) (A : Accepted P D ts)
       let h0 = use_places x (among eqb t.ab es) u0 X1 b.0.ab<E in
       let h1 = use_places x (among eqb t.bc (t.ab ∷ es)) u1 X2 b.0.bc<E in
       let h2 = use_places x (among eqb t.ca (t.bc ∷ t.ab ∷ es)) u2 X3 b.0.ca<E in
-      let c : occ x (all_places C) ≡ occ x (vertices g) = ap (occ x) (places-contents Point n (rd 0) (rd 1) (rd 2) (view g) ∙ view_list n g r.0) in
-      let ih = patches-places x es3 us gs b.1 r.1 in
+      let c : occ x (all_places C) ≡ occ x (vertices g) = ap (occ x) (places_contents Point n (rd 0) (rd 1) (rd 2) (view g) ∙ view_list n g r.0) in
+      let ih = patches_places x es3 us gs b.1 r.1 in
       let p0 = places-++ x (W0 ++ (W1 ++ (W2 ++ C))) rest in
       let p1 = places-++ x W0 (W1 ++ (W2 ++ C)) in
       let p2 = places-++ x W1 (W2 ++ C) in
@@ -191,9 +191,9 @@ module _ (Point : Type 0) (P D : ℕ) (ts : List Triangle) (A : Accepted P D ts)
       let p4 = occ-++ x (vertices g) (inners gs) in
       omega arith
 
-  edges-below : (us : List Triangle) → Each (Below P D) us → Each (λ u. u.edge < D) (uses us)
-  edges-below [] b = tt
-  edges-below (t ∷ us) b = (b.0.ab<E, (b.0.bc<E, (b.0.ca<E, edges-below us b.1)))
+  edges_below : (us : List Triangle) → Each (Below P D) us → Each (λ u. u.edge < D) (uses us)
+  edges_below [] b = tt
+  edges_below (t ∷ us) b = (b.0.ab<E, (b.0.bc<E, (b.0.ca<E, edges_below us b.1)))
 
   firsts_once : (e : ℕ) → occ e (firsts [] (uses ts)) ≤ 1
   firsts_once e = go (dec_le 1 (use_count e (uses ts)))
@@ -202,14 +202,14 @@ module _ (Point : Type 0) (P D : ℕ) (ts : List Triangle) (A : Accepted P D ts)
       go (yes h) = omega (arith, firsts_one e [] (uses ts) refl h)
       go (no h) = omega (arith, first_or_later e [] (uses ts))
 
-  pub all-places :
+  pub all_places_lem :
       (ps : List Point) → length ps ≡ P → (x : ℕ)
       → occ x (all_places (point_writes 0 ps ++ patches_writes N.n (edge_of N) (patches ts N))) ≤ occ x (range 0 N.total)
-  all-places ps e x =
+  all_places_lem ps e x =
       let a = places-++ x (point_writes 0 ps) (patches_writes N.n (edge_of N) (patches ts N)) in
-      let b : occ x (all_places (point_writes 0 ps)) ≡ occ x (range 0 P) = ap (occ x) (places-points 0 ps ∙ ap (range 0) e) in
-      let c = patches-places x [] ts N.contents A.below I.right in
-      let d = some_edges P D ts A N I x (firsts [] (uses ts)) (firsts_below D [] (uses ts) (edges-below ts A.below)) firsts_once in
+      let b : occ x (all_places (point_writes 0 ps)) ≡ occ x (range 0 P) = ap (occ x) (places_points 0 ps ∙ ap (range 0) e) in
+      let c = patches_places x [] ts N.contents A.below I.right in
+      let d = some_edges P D ts A N I x (firsts [] (uses ts)) (firsts_below D [] (uses ts) (edges_below ts A.below)) firsts_once in
       omega (
         arith,
         occ_alike (range 0 P ++ (flat N.edges ++ inners N.contents)) (range 0 N.total) I.all x,
@@ -222,5 +222,5 @@ module _ (Point : Type 0) (P D : ℕ) (ts : List Triangle) (A : Accepted P D ts)
       ready-++ [] (point_writes 0 ps) (patches_writes N.n (edge_of N) (patches ts N)) (ready_points [] 0 ps)
       (ready_patches Point N.n (edge_of N) P D (seen_after [] (point_writes 0 ps)) [] ts N.contents A.below I.right
       (λ x l. let i = range_in x 0 P (omega arith) (omega arith) in
-      omega (arith, occ-after x [] (point_writes 0 ps), ap (occ x) (places-points 0 ps ∙ ap (range 0) e)))
+      omega (arith, occ_after x [] (point_writes 0 ps), ap (occ x) (places_points 0 ps ∙ ap (range 0) e)))
       (λ e h. absurd (let z : ⊥ = omega arith in z)))

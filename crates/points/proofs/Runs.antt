@@ -13,11 +13,11 @@ use Rattle.points.specs.Runs.{State, pending, settled, Call, subdivide, calculat
 made_reached : (P E : ℕ) (ts : List Triangle) (n : ℕ) (N : Numbering) → Making P E ts n (Ok tt) N → Reached P E ts N
 made_reached P E ts n N (accepted h A l) = making n h
 
-made-accepted : (P E : ℕ) (ts : List Triangle) (n : ℕ) (N : Numbering) → Making P E ts n (Ok tt) N → Accepted P E ts
-made-accepted P E ts n N (accepted h A l) = A
+made_accepted : (P E : ℕ) (ts : List Triangle) (n : ℕ) (N : Numbering) → Making P E ts n (Ok tt) N → Accepted P E ts
+made_accepted P E ts n N (accepted h A l) = A
 
-made-count : (P E : ℕ) (ts : List Triangle) (n : ℕ) (N : Numbering) → Making P E ts n (Ok tt) N → N.n ≡ n
-made-count P E ts n N (accepted h A l) = refl
+made_count : (P E : ℕ) (ts : List Triangle) (n : ℕ) (N : Numbering) → Making P E ts n (Ok tt) N → N.n ≡ n
+made_count P E ts n N (accepted h A l) = refl
 
 pub reached_count : (P E : ℕ) (ts : List Triangle) (N : Numbering) → Reached P E ts N → N.n ≤ 12
 reached_count P E ts N (making n h) = h
@@ -63,15 +63,15 @@ module _ {Point Frac : Type 0} (share : ℕ → ℕ → Frac) (blank : Point) (M
   count_of (pending N) = N.n
   count_of (settled N F) = N.n
 
-  grown-count :
+  grown_count :
       (N : Numbering) (amount : ℕ) (b : Bool)
       → (unless_refused (unless b (SubdividedTooOften N.n amount)) (grown amount N) N).n
       ≡ N.n + unless_refused (unless b (SubdividedTooOften N.n amount)) amount 0
-  grown-count N amount true = refl
-  grown-count N amount false = omega arith
+  grown_count N amount true = refl
+  grown_count N amount false = omega arith
 
   call_count : (c : Call Point) (s : State Point) → count_of (after_call share blank M c s) ≡ count_of s + added share blank M c s
-  call_count (subdivide amount) (pending N) = grown-count N amount (leb (N.n + amount) 12)
+  call_count (subdivide amount) (pending N) = grown_count N amount (leb (N.n + amount) 12)
   call_count (subdivide amount) (settled N F) = omega arith
   call_count (calculate f) (pending N) = omega arith
   call_count (calculate f) (settled N F) = omega arith
@@ -79,18 +79,18 @@ module _ {Point Frac : Type 0} (share : ℕ → ℕ → Frac) (blank : Point) (M
   call_count reopen (settled N F) = omega arith
   call_count (ask a) s = omega arith
 
-  after-count : (cs : List (Call Point)) (s : State Point) → count_of (after share blank M cs s) ≡ count_of s + added_by share blank M cs s
-  after-count [] s = omega arith
-  after-count (c ∷ cs) s =
-      let e = after-count cs (after_call share blank M c s) in
+  after_count : (cs : List (Call Point)) (s : State Point) → count_of (after share blank M cs s) ≡ count_of s + added_by share blank M cs s
+  after_count [] s = omega arith
+  after_count (c ∷ cs) s =
+      let e = after_count cs (after_call share blank M c s) in
       let d = call_count c s in
       omega arith
 
   pub counted :
       (N : Numbering) (F : List Point) (r : Run share blank M N F) → N.n ≡ r.n + added_by share blank M r.calls (pending r.first)
   counted N F r =
-      sym (ap count_of r.leads) ∙ after-count r.calls (pending r.first)
-      ∙ ap (λ k. k + added_by share blank M r.calls (pending r.first)) (made-count (length M.points) M.edges M.triangles r.n r.first r.making)
+      sym (ap count_of r.leads) ∙ after_count r.calls (pending r.first)
+      ∙ ap (λ k. k + added_by share blank M r.calls (pending r.first)) (made_count (length M.points) M.edges M.triangles r.n r.first r.making)
 
-  pub accepted-base : (N : Numbering) (F : List Point) → Run share blank M N F → Accepted (length M.points) M.edges M.triangles
-  accepted-base N F r = made-accepted (length M.points) M.edges M.triangles r.n r.first r.making
+  pub accepted_base : (N : Numbering) (F : List Point) → Run share blank M N F → Accepted (length M.points) M.edges M.triangles
+  accepted_base N F r = made_accepted (length M.points) M.edges M.triangles r.n r.first r.making

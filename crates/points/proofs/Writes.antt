@@ -56,16 +56,16 @@ module _ {Point Frac : Type 0} (share : ℕ → ℕ → Frac) (blank : Point) (M
   not_one : (x y : ℕ) (l : List ℕ) → occ x (y ∷ l) ≡ 0 → (x ≡ y → ⊥)
   not_one x y l h e = let z : ⊥ = omega (arith, occ-cons x y l, hits_yes x y e) in z
 
-  placed-other :
+  placed_other :
       (g : ℕ → Point) (xs : ℕ → ℕ) (i k : ℕ) (f : List Point) (x : ℕ) → occ x (run_of xs i k) ≡ 0 → on (placed g i (run_of xs i k) f) x ≡ on f x
-  placed-other g xs i zero f x h = refl
-  placed-other g xs i (suc k) f x h =
-      placed-other g xs (suc i) k (set f (xs i) (g i)) x (omega (arith, occ-cons x (xs i) (run_of xs (suc i) k)))
+  placed_other g xs i zero f x h = refl
+  placed_other g xs i (suc k) f x h =
+      placed_other g xs (suc i) k (set f (xs i) (g i)) x (omega (arith, occ-cons x (xs i) (run_of xs (suc i) k)))
       ∙ get_or-set_other f (xs i) x (g i) blank (not_one x (xs i) (run_of xs (suc i) k) h)
 
-  placed-long : (g : ℕ → Point) (xs : ℕ → ℕ) (i k : ℕ) (f : List Point) → length (placed g i (run_of xs i k) f) ≡ length f
-  placed-long g xs i zero f = refl
-  placed-long g xs i (suc k) f = placed-long g xs (suc i) k (set f (xs i) (g i)) ∙ length-set f (xs i) (g i)
+  placed_long : (g : ℕ → Point) (xs : ℕ → ℕ) (i k : ℕ) (f : List Point) → length (placed g i (run_of xs i k) f) ≡ length f
+  placed_long g xs i zero f = refl
+  placed_long g xs i (suc k) f = placed_long g xs (suc i) k (set f (xs i) (g i)) ∙ length-set f (xs i) (g i)
 
   placed_at :
       (g : ℕ → Point) (xs : ℕ → ℕ) (i k : ℕ) (f : List Point) → ((x : ℕ) → occ x (run_of xs i k) ≤ 1)
@@ -83,30 +83,30 @@ module _ {Point Frac : Type 0} (share : ℕ → ℕ → Frac) (blank : Point) (M
       go (is e d) r =
           let one : 1 ≤ occ (xs i) (run_of xs i (suc k)) = in_run xs i (suc k) i (omega arith) (omega arith) in
           subst (λ (v : ℕ). on (placed g (suc i) (run_of xs (suc i) k) (set f (xs i) (g i))) (xs v) ≡ g v) (sym e)
-          (placed-other g xs (suc i) k (set f (xs i) (g i)) (xs i)
+          (placed_other g xs (suc i) k (set f (xs i) (g i)) (xs i)
           (omega (arith, once (xs i), occ-cons (xs i) (xs i) (run_of xs (suc i) k), hits_yes (xs i) (xs i) refl))
           ∙ get_or-set_same f (xs i) (g i) blank (low (xs i) one))
       go (isnt e d) r = r (omega arith) (omega arith)
 
-  written-other : (w : Write Point) (f : List Point) (x : ℕ) → occ x (places w) ≡ 0 → on (written share blank M w f) x ≡ on f x
-  written-other (put y p) f x h = get_or-set_other f y x p blank (not_one x y [] h)
-  written-other (middle y p q) f x h = get_or-set_other f y x (M.half (on f p) (on f q)) blank (not_one x y [] h)
-  written-other (along m xs p q) f x h = placed-other (λ i. M.between (on f p) (on f q) (share i m)) xs 0 m f x h
+  written_other : (w : Write Point) (f : List Point) (x : ℕ) → occ x (places w) ≡ 0 → on (written share blank M w f) x ≡ on f x
+  written_other (put y p) f x h = get_or-set_other f y x p blank (not_one x y [] h)
+  written_other (middle y p q) f x h = get_or-set_other f y x (M.half (on f p) (on f q)) blank (not_one x y [] h)
+  written_other (along m xs p q) f x h = placed_other (λ i. M.between (on f p) (on f q) (share i m)) xs 0 m f x h
 
-  written-long : (w : Write Point) (f : List Point) → length (written share blank M w f) ≡ length f
-  written-long (put y p) f = length-set f y p
-  written-long (middle y p q) f = length-set f y (M.half (on f p) (on f q))
-  written-long (along m xs p q) f = placed-long (λ i. M.between (on f p) (on f q) (share i m)) xs 0 m f
+  written_long : (w : Write Point) (f : List Point) → length (written share blank M w f) ≡ length f
+  written_long (put y p) f = length-set f y p
+  written_long (middle y p q) f = length-set f y (M.half (on f p) (on f q))
+  written_long (along m xs p q) f = placed_long (λ i. M.between (on f p) (on f q) (share i m)) xs 0 m f
 
-  pub run-other : (ws : List (Write Point)) (f : List Point) (x : ℕ) → occ x (all_places ws) ≡ 0 → on (run share blank M ws f) x ≡ on f x
-  run-other [] f x h = refl
-  run-other (w ∷ ws) f x h =
-      run-other ws (written share blank M w f) x (omega (arith, occ-++ x (places w) (all_places ws)))
-      ∙ written-other w f x (omega (arith, occ-++ x (places w) (all_places ws)))
+  pub run_other : (ws : List (Write Point)) (f : List Point) (x : ℕ) → occ x (all_places ws) ≡ 0 → on (run share blank M ws f) x ≡ on f x
+  run_other [] f x h = refl
+  run_other (w ∷ ws) f x h =
+      run_other ws (written share blank M w f) x (omega (arith, occ-++ x (places w) (all_places ws)))
+      ∙ written_other w f x (omega (arith, occ-++ x (places w) (all_places ws)))
 
   pub run_long : (ws : List (Write Point)) (f : List Point) → length (run share blank M ws f) ≡ length f
   run_long [] f = refl
-  run_long (w ∷ ws) f = run_long ws (written share blank M w f) ∙ written-long w f
+  run_long (w ∷ ws) f = run_long ws (written share blank M w f) ∙ written_long w f
 
   module _ (ws : List (Write Point)) (f : List Point) where
     first :
@@ -114,13 +114,13 @@ module _ {Point Frac : Type 0} (share : ℕ → ℕ → Frac) (blank : Point) (M
         → Each (λ x. occ x (places w) + occ x (all_places ws) ≡ 0) (sources w) → Holds (run share blank M ws (written share blank M w f)) w
     first (put x p) once low old =
         let one : occ x (x ∷ []) ≡ 1 = omega (arith, occ-cons x x [], hits_yes x x refl) in
-        run-other ws (set f x p) x (omega (arith, once x)) ∙ get_or-set_same f x p blank (low x (omega arith))
+        run_other ws (set f x p) x (omega (arith, once x)) ∙ get_or-set_same f x p blank (low x (omega arith))
     first (middle x p q) once low old =
         let one : occ x (x ∷ []) ≡ 1 = omega (arith, occ-cons x x [], hits_yes x x refl) in
         let w : Write Point = middle x p q in
         let kept : (y : ℕ) → occ y (places w) + occ y (all_places ws) ≡ 0 → on f y ≡ on (run share blank M ws (written share blank M w f)) y
-        = λ y h. sym (run-other (w ∷ ws) f y (omega (arith, occ-++ y (places w) (all_places ws)))) in
-        run-other ws (written share blank M w f) x (omega (arith, once x))
+        = λ y h. sym (run_other (w ∷ ws) f y (omega (arith, occ-++ y (places w) (all_places ws)))) in
+        run_other ws (written share blank M w f) x (omega (arith, once x))
         ∙ get_or-set_same f x (M.half (on f p) (on f q)) blank (low x (omega arith))
         ∙ ap₂ M.half (kept p old.0) (kept q old.1.0)
     first (along m xs p q) once low old =
@@ -128,8 +128,8 @@ module _ {Point Frac : Type 0} (share : ℕ → ℕ → Frac) (blank : Point) (M
         let w : Write Point = along m xs p q in
         let one : 1 ≤ occ (xs i) (run_of xs 0 m) = in_run xs 0 m i (omega arith) (omega arith) in
         let kept : (y : ℕ) → occ y (places w) + occ y (all_places ws) ≡ 0 → on f y ≡ on (run share blank M ws (written share blank M w f)) y
-        = λ y h. sym (run-other (w ∷ ws) f y (omega (arith, occ-++ y (places w) (all_places ws)))) in
-        run-other ws (written share blank M w f) (xs i) (omega (arith, once (xs i)))
+        = λ y h. sym (run_other (w ∷ ws) f y (omega (arith, occ-++ y (places w) (all_places ws)))) in
+        run_other ws (written share blank M w f) (xs i) (omega (arith, once (xs i)))
         ∙ placed_at (λ j. M.between (on f p) (on f q) (share j m)) xs 0 m f (λ x. omega (arith, once x)) low i (omega arith) (omega arith)
         ∙ ap₂ (λ a b. M.between a b (share i m)) (kept p old.0) (kept q old.1.0)
 
@@ -153,5 +153,5 @@ module _ {Point Frac : Type 0} (share : ℕ → ℕ → Frac) (blank : Point) (M
         (λ x h. sym (occ-++ x (places w) (all_places ws)) ∙ h) (unseen seen (places w ++ all_places ws) (sources w) once r.0)),
     holds (places w ++ seen) ws (written share blank M w f) r.1
         (λ x. omega (arith, once x, occ-++ x (places w) (all_places ws), occ-++ x (places w) seen))
-        (λ x c. let a : x < length f = low x (omega (arith, occ-++ x (places w) (all_places ws))) in omega (arith, written-long w f)),
+        (λ x c. let a : x < length f = low x (omega (arith, occ-++ x (places w) (all_places ws))) in omega (arith, written_long w f)),
   )

@@ -5,7 +5,7 @@ use Rattle.pattern.specs.Sides.{count, face_sides}
 use Rattle.point.specs.declared.Vec3A.{Vec3A}
 use Rattle.shape.specs.Lists.{Each}
 use Rattle.shape.specs.Listing.{share as float_share}
-use Rattle.mesh.specs.Calls.{all-faces, all_lines, numbers_written, strips_written}
+use Rattle.mesh.specs.Calls.{all_faces, all_lines, numbers_written, strips_written}
 use Rattle.mesh.specs.Faces.{faces, patches, triples, SideOnce}
 use Rattle.mesh.specs.Making.{Making}
 use Rattle.mesh.specs.Numbering.{Numbering, Counted, edge_of}
@@ -49,8 +49,8 @@ PlacedOfRuns Point Frac =
 abbrev pub FacesOfRuns : Type 0 → Type 0 → Type 0
 FacesOfRuns Point Frac =
     (share : ℕ → ℕ → Frac) (blank : Point) (M : Meaning Point Frac) (N : Numbering) (F : List Point) → Run share blank M N F
-    → (room p q : ℕ) → 1 ≤ count nat_eq p q (face_sides (triples (numbers_written M.triangles N (all-faces room))))
-    → SideOnce M.triangles N (face_sides (triples (numbers_written M.triangles N (all-faces room)))) p q
+    → (room p q : ℕ) → 1 ≤ count nat_eq p q (face_sides (triples (numbers_written M.triangles N (all_faces room))))
+    → SideOnce M.triangles N (face_sides (triples (numbers_written M.triangles N (all_faces room)))) p q
 
 -- Each side drawn once: by the strips l that a full line call closes in a sink whose open strip was empty.
 abbrev pub StripsOfRuns : Type 0 → Type 0 → Type 0

@@ -6,7 +6,7 @@ use Rattle.shape.specs.declared.triangle.Triangle.{Triangle}
 use Rattle.shape.specs.Listing.{share}
 use Rattle.point.specs.Points.{point, lerped, halved}
 use Rattle.questions.specs.Laws.{tetrahedron}
-use Rattle.mesh.specs.Examples.{one-triangle, square}
+use Rattle.mesh.specs.Examples.{one_triangle, square}
 use Rattle.mesh.specs.Numbering.{Numbering, made}
 use Rattle.mesh.specs.Recorded.{fan, grown_by, same_list}
 use Rattle.points.specs.Calculating.{Meaning, calculated}
@@ -51,7 +51,7 @@ row_0 =
     record {
       given = 3210589143 ∷ 0 ∷ 3204448256 ∷ 1063105495 ∷ 0 ∷ 3204448256 ∷ 0 ∷ 0 ∷ 1065353216 ∷ [];
       edges = 3;
-      triangles = one-triangle;
+      triangles = one_triangle;
       made_at = 3;
       amounts = [];
       points = 3210589143 ∷ 0 ∷ 3204448256 ∷ 1063105495 ∷ 0 ∷ 3204448256 ∷ 0 ∷ 0 ∷ 1065353216 ∷ 1046328279 ∷ 0 ∷ 1059061760 ∷ 1054716887 ∷ 0 ∷ 1048576000 ∷ 1059473121 ∷ 0 ∷ 3187671040 ∷ 1054716886 ∷ 0 ∷ 3204448256 ∷ 0 ∷ 0 ∷ 3204448256 ∷ 3202200534 ∷ 0 ∷ 3204448256 ∷ 3206956769 ∷ 0 ∷ 3187671040 ∷ 3202200535 ∷ 0 ∷ 1048576000 ∷ 3193811927 ∷ 0 ∷ 1059061760 ∷ 0 ∷ 0 ∷ 1048576000 ∷ 1046328279 ∷ 0 ∷ 3187671040 ∷ 3193811927 ∷ 0 ∷ 3187671040 ∷ [];

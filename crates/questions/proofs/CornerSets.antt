@@ -7,7 +7,7 @@ use Rattle.shape.specs.Sides.{corners}
 use Rattle.shape.specs.Questions.{Differ, DifferentSets}
 use Rattle.questions.specs.declared.question.Question.TheVariants.{DifferentSets as AsksSets}
 use Rattle.questions.specs.Tests.{has_corner, covered, same_corners, pair, passes}
-use Rattle.questions.proofs.Tests.{and_left, and_right, and_in, or_out, or_left, or_right, eq→eqb, every-at, every_in}
+use Rattle.questions.proofs.Tests.{and_left, and_right, and_in, or_out, or_left, or_right, eq→eqb, every_at, every_in}
 use Rattle.questions.proofs.Stepwise.{Stepwise}
 
 corner_sound : (t : Triangle) (x : ℕ) → T (has_corner t x) → In x (corners (t ∷ []))
@@ -76,10 +76,10 @@ module _ {X : Type 0} (R : X → X → Type 0) where
   pairs-snoc [] x p f = (tt, tt)
   pairs-snoc (y ∷ l) x p f = (each_snoc y x l p.0 (f y (inl refl)), pairs-snoc l x p.1 (λ s i. f s (inr i)))
 
-  pairs-last : (l : List X) (x : X) → Pairs R (l ++ x ∷ []) → (s : X) → In s l → R s x
-  pairs-last [] x p s i = absurd i
-  pairs-last (y ∷ l) x p s (inl e) = subst (λ z. R z x) (sym e) (each_init y x l p.0).1
-  pairs-last (y ∷ l) x p s (inr i) = pairs-last l x p.1 s i
+  pairs_last : (l : List X) (x : X) → Pairs R (l ++ x ∷ []) → (s : X) → In s l → R s x
+  pairs_last [] x p s i = absurd i
+  pairs_last (y ∷ l) x p s (inl e) = subst (λ z. R z x) (sym e) (each_init y x l p.0).1
+  pairs_last (y ∷ l) x p s (inr i) = pairs_last l x p.1 s i
 
   pairs_init : (l : List X) (x : X) → Pairs R (l ++ x ∷ []) → Pairs R l
   pairs_init [] x p = tt
@@ -89,7 +89,7 @@ pub sets_stepwise : Stepwise DifferentSets (λ _. Unit {0}) (passes AsksSets)
 sets_stepwise =
     record {
       start = tt;
-      adds = λ l x _ _ k t. pairs-snoc Differ l x k (λ s i. differ_sound s x (every-at (λ s. pair AsksSets s x) l t s i));
-      needs = λ l x _ _ k. every_in (λ s. pair AsksSets s x) l (λ s i. differ_complete s x (pairs-last Differ l x k s i));
+      adds = λ l x _ _ k t. pairs-snoc Differ l x k (λ s i. differ_sound s x (every_at (λ s. pair AsksSets s x) l t s i));
+      needs = λ l x _ _ k. every_in (λ s. pair AsksSets s x) l (λ s i. differ_complete s x (pairs_last Differ l x k s i));
       keeps = λ l x k. pairs_init Differ l x k;
     }

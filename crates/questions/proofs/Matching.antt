@@ -6,7 +6,7 @@ use Rattle.shape.specs.Sides.{Use, uses, SameEnds}
 use Rattle.shape.specs.Questions.{EdgesMatch}
 use Rattle.questions.specs.declared.question.Question.TheVariants.{EdgesMatch as AsksEdges}
 use Rattle.questions.specs.Tests.{every, same_bool, same_ends, matches, agree, sides_agree, pair, passes}
-use Rattle.questions.proofs.Tests.{and_left, and_right, and_in, or_out, or_left, or_right, eq→eqb, every-at, every_in}
+use Rattle.questions.proofs.Tests.{and_left, and_right, and_in, or_out, or_left, or_right, eq→eqb, every_at, every_in}
 use Rattle.questions.proofs.Sides.{in_left, in_right, in_split, uses-append, owner, owned}
 use Rattle.questions.proofs.Stepwise.{Stepwise}
 
@@ -42,7 +42,7 @@ ends_complete u v (inr h) =
 -- one edge number exactly if one pair of corners
 record Match (u v : Use) : Type 0 where
   pub pair_is : u.edge ≡ v.edge → SameEnds u v
-  pub edge-is : SameEnds u v → u.edge ≡ v.edge
+  pub edge_is : SameEnds u v → u.edge ≡ v.edge
 
 same_out : (a b : Bool) → T (same_bool a b) → (T a → T b) × (T b → T a)
 same_out true true t = (λ x. x, λ x. x)
@@ -60,35 +60,35 @@ match_sound u v t =
     let x = same_out (eqb u.edge v.edge) (same_ends u v) t in
     record {
       pair_is = λ e. ends_sound u v (x.0 (eq→eqb u.edge v.edge e));
-      edge-is = λ s. eqb→eq u.edge v.edge (x.1 (ends_complete u v s));
+      edge_is = λ s. eqb→eq u.edge v.edge (x.1 (ends_complete u v s));
     }
 
 match_complete : (u v : Use) → Match u v → T (matches u v)
 match_complete u v m =
     same_in (eqb u.edge v.edge) (same_ends u v) (λ t. ends_complete u v (m.pair_is (eqb→eq u.edge v.edge t)))
-    (λ t. eq→eqb u.edge v.edge (m.edge-is (ends_sound u v t)))
+    (λ t. eq→eqb u.edge v.edge (m.edge_is (ends_sound u v t)))
 
 ends_turned : (u v : Use) → SameEnds u v → SameEnds v u
 ends_turned u v (inl h) = inl (sym h.0, sym h.1)
 ends_turned u v (inr h) = inr (sym h.1, sym h.0)
 
 turned : (u v : Use) → Match u v → Match v u
-turned u v m = record { pair_is = λ e. ends_turned u v (m.pair_is (sym e)); edge-is = λ s. sym (m.edge-is (ends_turned v u s)) }
+turned u v m = record { pair_is = λ e. ends_turned u v (m.pair_is (sym e)); edge_is = λ s. sym (m.edge_is (ends_turned v u s)) }
 
 -- every two sides of a list match
 abbrev AllMatch : List Use → Type 0
 AllMatch us = (u v : Use) → In u us → In v us → Match u v
 
 to_all : (ts : List Triangle) → EdgesMatch ts → AllMatch (uses ts)
-to_all ts k u v i j = record { pair_is = k.one-pair u v i j; edge-is = k.one-edge u v i j }
+to_all ts k u v i j = record { pair_is = k.one_pair u v i j; edge_is = k.one_edge u v i j }
 
 from_all : (ts : List Triangle) → AllMatch (uses ts) → EdgesMatch ts
-from_all ts k = record { one-pair = λ u v i j. (k u v i j).pair_is; one-edge = λ u v i j. (k u v i j).edge-is }
+from_all ts k = record { one_pair = λ u v i j. (k u v i j).pair_is; one_edge = λ u v i j. (k u v i j).edge_is }
 
 sides_sound : (s t : Triangle) → T (sides_agree AsksEdges s t) → (u v : Use) → In u (uses (s ∷ [])) → In v (uses (t ∷ [])) → Match u v
 sides_sound s t h u v i j =
     match_sound u v
-    (every-at (agree AsksEdges u) (uses (t ∷ [])) (every-at (λ w. every (agree AsksEdges w) (uses (t ∷ []))) (uses (s ∷ [])) h u i) v j)
+    (every_at (agree AsksEdges u) (uses (t ∷ [])) (every_at (λ w. every (agree AsksEdges w) (uses (t ∷ []))) (uses (s ∷ [])) h u i) v j)
 
 sides_complete : (s t : Triangle) → ((u v : Use) → In u (uses (s ∷ [])) → In v (uses (t ∷ [])) → Match u v) → T (sides_agree AsksEdges s t)
 sides_complete s t k =
@@ -105,7 +105,7 @@ adds l x k t u v i j = go (in_split u (uses l) (uses (x ∷ [])) i) (in_split v 
     across w z a b =
         let o = owner w l a in
         sides_sound o.s x
-        (every-at (λ s. pair AsksEdges s x) l (and_right (sides_agree AsksEdges x x) (every (λ s. pair AsksEdges s x) l) t) o.s o.there) w z o.side b
+        (every_at (λ s. pair AsksEdges s x) l (and_right (sides_agree AsksEdges x x) (every (λ s. pair AsksEdges s x) l) t) o.s o.there) w z o.side b
 
     go : In u (uses l) ⊎ In u (uses (x ∷ [])) → In v (uses l) ⊎ In v (uses (x ∷ [])) → Match u v
     go (inl a) (inl b) = k u v a b

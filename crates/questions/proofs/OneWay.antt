@@ -7,7 +7,7 @@ use Rattle.shape.specs.Sides.{Use, walk, uses, both, tick, way_count}
 use Rattle.shape.specs.Questions.{OneWayEach, ThreeCorners}
 use Rattle.questions.specs.declared.question.Question.TheVariants.{OneWayEach as AsksWays}
 use Rattle.questions.specs.Tests.{every, same_way, agree, pair, passes}
-use Rattle.questions.proofs.Tests.{and_left, and_right, and_in, eq→eqb, every-at, every_in}
+use Rattle.questions.proofs.Tests.{and_left, and_right, and_in, eq→eqb, every_at, every_in}
 use Rattle.questions.proofs.Sides.{uses-append, owner, owned, way_append, Walks, walks_out, walked, way_counted}
 use Rattle.questions.proofs.Stepwise.{Stepwise}
 
@@ -22,7 +22,7 @@ walks_as u v t =
     let b = eqb u.start v.start && eqb u.stop v.stop in
     let k = and_right (eqb u.edge v.edge) b t in
     record {
-      edge-is = eqb→eq u.edge v.edge (and_left (eqb u.edge v.edge) b t);
+      edge_is = eqb→eq u.edge v.edge (and_left (eqb u.edge v.edge) b t);
       start_is = eqb→eq u.start v.start (and_left (eqb u.start v.start) (eqb u.stop v.stop) k);
       stop_is = eqb→eq u.stop v.stop (and_right (eqb u.start v.start) (eqb u.stop v.stop) k);
     }
@@ -70,9 +70,9 @@ adds l x c k t e p q = go (dec_le 1 (way_count e p q (uses l))) (dec_le 1 (way_c
         let v = walked e p q (uses (x ∷ [])) b in
         let o = owner u.u l u.there in
         T_not (same_way u.u v.u)
-        (every-at (agree AsksWays u.u) (uses (x ∷ []))
-        (every-at (λ w. every (agree AsksWays w) (uses (x ∷ []))) (uses (o.s ∷ [])) (every-at (λ s. pair AsksWays s x) l t o.s o.there) u.u o.side) v.u v.there)
-        (same_way_lem u.u v.u (sym u.walks.edge-is ∙ v.walks.edge-is) (sym u.walks.start_is ∙ v.walks.start_is) (sym u.walks.stop_is ∙ v.walks.stop_is))
+        (every_at (agree AsksWays u.u) (uses (x ∷ []))
+        (every_at (λ w. every (agree AsksWays w) (uses (x ∷ []))) (uses (o.s ∷ [])) (every_at (λ s. pair AsksWays s x) l t o.s o.there) u.u o.side) v.u v.there)
+        (same_way_lem u.u v.u (sym u.walks.edge_is ∙ v.walks.edge_is) (sym u.walks.start_is ∙ v.walks.start_is) (sym u.walks.stop_is ∙ v.walks.stop_is))
 
     go : Dec (1 ≤ way_count e p q (uses l)) → Dec (1 ≤ way_count e p q (uses (x ∷ []))) → way_count e p q (uses l ++ uses (x ∷ [])) ≤ 1
     go (yes a) (yes b) = absurd (clash a b)
@@ -88,7 +88,7 @@ needs l x k =
     (λ t. let e = u.edge in
     let p = u.start in
     let q = u.stop in
-    let a = way_counted e p q (uses l) u (owned u s l there i) (record { edge-is = refl; start_is = refl; stop_is = refl }) in
+    let a = way_counted e p q (uses l) u (owned u s l there i) (record { edge_is = refl; start_is = refl; stop_is = refl }) in
     let b = way_counted e p q (uses (x ∷ [])) v j (walks_as u v t) in
     let z : ⊥ = omega (arith, way_append e p q (uses l) (uses (x ∷ [])), k e p q) in
     z))))

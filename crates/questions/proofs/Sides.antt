@@ -65,7 +65,7 @@ module _ (e p q : ℕ) where
 
   -- a side that walks e from p to q
   pub record Walks (u : Use) : Type 0 where
-    pub edge-is : e ≡ u.edge
+    pub edge_is : e ≡ u.edge
     pub start_is : p ≡ u.start
     pub stop_is : q ≡ u.stop
 
@@ -81,11 +81,11 @@ module _ (e p q : ℕ) where
   walks_out u t =
       let x = both_out (eqb e u.edge) (both (eqb p u.start) (eqb q u.stop)) t in
       let y = both_out (eqb p u.start) (eqb q u.stop) x.1 in
-      record { edge-is = eqb→eq e u.edge x.0; start_is = eqb→eq p u.start y.0; stop_is = eqb→eq q u.stop y.1 }
+      record { edge_is = eqb→eq e u.edge x.0; start_is = eqb→eq p u.start y.0; stop_is = eqb→eq q u.stop y.1 }
 
   walks_in : (u : Use) → Walks u → T (both (eqb e u.edge) (both (eqb p u.start) (eqb q u.stop)))
   walks_in u w =
-      both_in (eqb e u.edge) (both (eqb p u.start) (eqb q u.stop)) (eq→eqb e u.edge w.edge-is)
+      both_in (eqb e u.edge) (both (eqb p u.start) (eqb q u.stop)) (eq→eqb e u.edge w.edge_is)
       (both_in (eqb p u.start) (eqb q u.stop) (eq→eqb p u.start w.start_is) (eq→eqb q u.stop w.stop_is))
 
   pub record Walked (us : List Use) : Type 0 where
@@ -103,13 +103,13 @@ module _ (e p q : ℕ) where
       go true f r k = record { u = u; there = inl refl; walks = walks_out u (f tt) }
       go false f r k = let o = r k in record { u = o.u; there = inr o.there; walks = o.walks }
 
-  tick-more : (b : Bool) (n : ℕ) → n ≤ tick b n
-  tick-more true n = omega arith
-  tick-more false n = omega arith
+  tick_more : (b : Bool) (n : ℕ) → n ≤ tick b n
+  tick_more true n = omega arith
+  tick_more false n = omega arith
 
   pub way_counted : (us : List Use) (u : Use) → In u us → Walks u → 1 ≤ way_count e p q us
   way_counted [] u i w = absurd i
   way_counted (v ∷ us) u (inl d) w =
       tick_yes (both (eqb e v.edge) (both (eqb p v.start) (eqb q v.stop))) (way_count e p q us) (walks_in v (subst Walks d w))
   way_counted (v ∷ us) u (inr i) w =
-      omega (arith, tick-more (both (eqb e v.edge) (both (eqb p v.start) (eqb q v.stop))) (way_count e p q us), way_counted us u i w)
+      omega (arith, tick_more (both (eqb e v.edge) (both (eqb p v.start) (eqb q v.stop))) (way_count e p q us), way_counted us u i w)

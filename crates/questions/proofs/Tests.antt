@@ -46,10 +46,10 @@ pub unequal : (x y : ℕ) → (x ≡ y → ⊥) → T (not (eqb x y))
 unequal x y f = not_T (eqb x y) (λ t. f (eqb→eq x y t))
 
 module _ {X : Type 0} (f : X → Bool) where
-  pub every-at : (l : List X) → T (every f l) → (x : X) → In x l → T (f x)
-  every-at [] t x i = absurd i
-  every-at (y ∷ l) t x (inl e) = subst (λ z. T (f z)) (sym e) (and_left (f y) (every f l) t)
-  every-at (y ∷ l) t x (inr i) = every-at l (and_right (f y) (every f l) t) x i
+  pub every_at : (l : List X) → T (every f l) → (x : X) → In x l → T (f x)
+  every_at [] t x i = absurd i
+  every_at (y ∷ l) t x (inl e) = subst (λ z. T (f z)) (sym e) (and_left (f y) (every f l) t)
+  every_at (y ∷ l) t x (inr i) = every_at l (and_right (f y) (every f l) t) x i
 
   pub every_in : (l : List X) → ((x : X) → In x l → T (f x)) → T (every f l)
   every_in [] h = tt

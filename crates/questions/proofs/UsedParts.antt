@@ -56,9 +56,9 @@ tick_or : (b : Bool) (n : ℕ) → 1 ≤ tick b n → T b ⊎ (1 ≤ n)
 tick_or true n h = inl tt
 tick_or false n h = inr h
 
-tick-more : (b : Bool) (n : ℕ) → 1 ≤ n → 1 ≤ tick b n
-tick-more true n h = omega arith
-tick-more false n h = h
+tick_more : (b : Bool) (n : ℕ) → 1 ≤ n → 1 ≤ tick b n
+tick_more true n h = omega arith
+tick_more false n h = h
 
 edge_sound : (ts : List Triangle) (e : ℕ) → T (is_used Edge ts e) → 1 ≤ use_count e (uses ts)
 edge_sound [] e t = absurd t
@@ -74,8 +74,8 @@ edge_sound (x ∷ ts) e t = go (or_out (touches Edge e x) (some (touches Edge e)
     b = tick (eqb e x.bc) c
 
     last : T (eqb e x.bc) ⊎ T (eqb e x.ca) → 1 ≤ tick (eqb e x.ab) b
-    last (inl h) = tick-more (eqb e x.ab) b (tick_yes (eqb e x.bc) c h)
-    last (inr h) = tick-more (eqb e x.ab) b (tick-more (eqb e x.bc) c (tick_yes (eqb e x.ca) n h))
+    last (inl h) = tick_more (eqb e x.ab) b (tick_yes (eqb e x.bc) c h)
+    last (inr h) = tick_more (eqb e x.ab) b (tick_more (eqb e x.bc) c (tick_yes (eqb e x.ca) n h))
 
     own : T (eqb e x.ab) ⊎ T (eqb e x.bc || eqb e x.ca) → 1 ≤ tick (eqb e x.ab) b
     own (inl h) = tick_yes (eqb e x.ab) b h
@@ -83,7 +83,7 @@ edge_sound (x ∷ ts) e t = go (or_out (touches Edge e x) (some (touches Edge e)
 
     go : T (touches Edge e x) ⊎ T (some (touches Edge e) ts) → (T (is_used Edge ts e) → 1 ≤ use_count e (uses ts)) → 1 ≤ tick (eqb e x.ab) b
     go (inl h) r = own (or_out (eqb e x.ab) (eqb e x.bc || eqb e x.ca) h)
-    go (inr h) r = tick-more (eqb e x.ab) b (tick-more (eqb e x.bc) c (tick-more (eqb e x.ca) n (r h)))
+    go (inr h) r = tick_more (eqb e x.ab) b (tick_more (eqb e x.bc) c (tick_more (eqb e x.ca) n (r h)))
 
 edge_complete : (ts : List Triangle) (e : ℕ) → 1 ≤ use_count e (uses ts) → T (is_used Edge ts e)
 edge_complete [] e h = absurd (let z : ⊥ = omega arith in z)

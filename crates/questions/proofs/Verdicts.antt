@@ -81,8 +81,8 @@ module _ (P E : ℕ) (ts : List Triangle) where
   abbrev after4 : Answer
   after4 = unless (first_no AsksCorners ts) RepeatedCorner after5
 
-  used-verdict : YesTo8 P E ts → Verdict P E ts (used_answer P E ts)
-  used-verdict y =
+  used_verdict : YesTo8 P E ts → Verdict P E ts (used_answer P E ts)
+  used_verdict y =
       lacks E (first_lack (is_used Edge ts) E) (λ e. Unused (UnusedEdge e)) (unless (first_lack (is_used Point ts) P) (λ p. Unused (UnusedPoint p)) (Ok tt))
       (first_lack_lem (edges_decide P E ts) E) (λ e l. (y, l))
       (λ all. lacks P (first_lack (is_used Point ts) P) (λ p. Unused (UnusedPoint p)) (Ok tt) (first_lack_lem (points_decide P E ts) P) (λ p l. (y, (all, l)))
@@ -108,10 +108,10 @@ module _ (P E : ℕ) (ts : List Triangle) where
       chain (first_no AsksWays ts) EdgeDirection after7 (used_answer P E ts) (first_no_lem AsksWays ways_stepwise ts a5) (λ t f. (y6, f))
       (λ a7. let y7 : YesTo7 P E ts = (y6, a7) in
       chain (first_no AsksSets ts) RepeatedTriangle after8 (used_answer P E ts) (first_no_lem AsksSets sets_stepwise ts (each_unit ts)) (λ t f. (y7, f))
-      (λ a8. used-verdict (y7, a8))))))
+      (λ a8. used_verdict (y7, a8))))))
 
-  pub answer-verdict : Verdict P E ts (answer P E ts)
-  answer-verdict = go (few (length ts)) refl (sized P E) refl
+  pub answer_verdict : Verdict P E ts (answer P E ts)
+  answer_verdict = go (few (length ts)) refl (sized P E) refl
     where
       go :
           (f : Bool) → few (length ts) ≡ f → (s : Bool) → sized P E ≡ s
@@ -202,31 +202,31 @@ module _ (P E : ℕ) (ts : List Triangle) where
   after_8 : YesTo8 P E ts → (oe op : Option ℕ) → oe ≡ OE → op ≡ OP → total true true None None None None None oe op ≡ answer P E ts
   after_8 y oe op e p = (λ i. total true true None None None None (e8 None y.1 i) (e i) (p i)) ∙ after_7 y.0 O8 refl
 
-  pub only-verdict : (r : Answer) → Verdict P E ts r → r ≡ answer P E ts
-  only-verdict (Ok u) a =
+  pub only_verdict : (r : Answer) → Verdict P E ts r → r ≡ answer P E ts
+  only_verdict (Ok u) a =
       let y : YesTo8 P E ts = ((((((a.triangles, a.sizes), a.below), a.three), a.matching), a.each_way), a.differ) in
       after_8 y None None (unused_edge_is None a.used.edges) (unused_point_is None a.used.points)
-  only-verdict (Err (TriangleCount n)) v =
+  only_verdict (Err (TriangleCount n)) v =
       ap (λ m. Err (TriangleCount m)) v.0 ∙ (λ i. total (sym (is_false F (λ t. v.1 (few_sound ts t))) i) S O4 O5 O6 O7 O8 OE OP)
-  only-verdict (Err (PointOrEdgeCount p e)) v =
+  only_verdict (Err (PointOrEdgeCount p e)) v =
       (λ i. Err (PointOrEdgeCount (v.0 i) (v.1 i)))
       ∙ (λ i. total (e2 v.2 i) (sym (is_false S (λ t. v.3 (sized_sound P E t))) i) O4 O5 O6 O7 O8 OE OP)
-  only-verdict (Err (OutOfRange t)) v = after_3 v.0 (Some t) (e4 (Some t) v.1)
-  only-verdict (Err (RepeatedCorner t)) v = after_4 v.0 (Some t) (e5 (Some t) v.1)
-  only-verdict (Err (EdgeMismatch t)) v = after_5 v.0 (Some t) (e6 (Some t) v.1)
-  only-verdict (Err (EdgeDirection t)) v = after_6 v.0 (Some t) (e7 v.0.0.1 (Some t) v.1)
-  only-verdict (Err (RepeatedTriangle t)) v = after_7 v.0 (Some t) (e8 (Some t) v.1)
-  only-verdict (Err (Unused (UnusedEdge e))) v = after_8 v.0 (Some e) OP (unused_edge_is (Some e) v.1) refl
-  only-verdict (Err (Unused (UnusedPoint p))) v = after_8 v.0 None (Some p) (unused_edge_is None v.1.0) (unused_point_is (Some p) v.1.1)
-  only-verdict (Err (TooManySubdivisions n)) v = absurd v
-  only-verdict (Err (TooManyVertices n)) v = absurd v
-  only-verdict (Err (SubdividedTooOften n k)) v = absurd v
-  only-verdict (Err (NoTriangle t n)) v = absurd v
-  only-verdict (Err (BufferTooShort n l)) v = absurd v
-  only-verdict (Err (NumberTooLarge x)) v = absurd v
-  only-verdict (Err (SinkFull p b)) v = absurd v
-  only-verdict (Err (InvalidListing n l)) v = absurd v
-  only-verdict (Err (DataTooShort n l)) v = absurd v
+  only_verdict (Err (OutOfRange t)) v = after_3 v.0 (Some t) (e4 (Some t) v.1)
+  only_verdict (Err (RepeatedCorner t)) v = after_4 v.0 (Some t) (e5 (Some t) v.1)
+  only_verdict (Err (EdgeMismatch t)) v = after_5 v.0 (Some t) (e6 (Some t) v.1)
+  only_verdict (Err (EdgeDirection t)) v = after_6 v.0 (Some t) (e7 v.0.0.1 (Some t) v.1)
+  only_verdict (Err (RepeatedTriangle t)) v = after_7 v.0 (Some t) (e8 (Some t) v.1)
+  only_verdict (Err (Unused (UnusedEdge e))) v = after_8 v.0 (Some e) OP (unused_edge_is (Some e) v.1) refl
+  only_verdict (Err (Unused (UnusedPoint p))) v = after_8 v.0 None (Some p) (unused_edge_is None v.1.0) (unused_point_is (Some p) v.1.1)
+  only_verdict (Err (TooManySubdivisions n)) v = absurd v
+  only_verdict (Err (TooManyVertices n)) v = absurd v
+  only_verdict (Err (SubdividedTooOften n k)) v = absurd v
+  only_verdict (Err (NoTriangle t n)) v = absurd v
+  only_verdict (Err (BufferTooShort n l)) v = absurd v
+  only_verdict (Err (NumberTooLarge x)) v = absurd v
+  only_verdict (Err (SinkFull p b)) v = absurd v
+  only_verdict (Err (InvalidListing n l)) v = absurd v
+  only_verdict (Err (DataTooShort n l)) v = absurd v
 
 -- the counts pass, and then the list is asked: counts p, e, n and a list l that are the base's
 pub list_settles :
@@ -235,4 +235,4 @@ pub list_settles :
 list_settles P E ts p e n l u r ep ee en el c a =
     let k : Ok u ≡ counts_answer P E (length ts) = c ∙ (λ i. counts_answer (ep i) (ee i) (en i)) in
     let q : r ≡ answer P E ts = a ∙ (λ i. list_answer (ep i) (ee i) (el i)) ∙ (λ i. and_then (k i) (list_answer P E ts)) in
-    subst (Verdict P E ts) (sym q) (answer-verdict P E ts)
+    subst (Verdict P E ts) (sym q) (answer_verdict P E ts)

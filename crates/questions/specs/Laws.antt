@@ -33,11 +33,11 @@ pub record RefusedAt (P E : ℕ) (ts : List Triangle) (number t : ℕ) : Type 0 
   pub refusal : Refusal
   pub verdict : Verdict P E ts (Err refusal)
   pub number_is : refusal_number refusal ≡ number
-  pub triangle-is : refusal_triangle refusal ≡ t
+  pub triangle_is : refusal_triangle refusal ≡ t
 
 pub record Examples : Type 0 where
-  pub triangle-accepted : Accepted 3 3 triangle_triangles
-  pub square-accepted : Accepted 4 5 square_triangles
-  pub tetrahedron-accepted : Accepted 4 6 tetrahedron
+  pub triangle_accepted : Accepted 3 3 triangle_triangles
+  pub square_accepted : Accepted 4 5 square_triangles
+  pub tetrahedron_accepted : Accepted 4 6 tetrahedron
   pub two_sided_refused : RefusedAt 3 3 two_sided 8 1
   pub turned_copy_refused : RefusedAt 3 3 turned_copy 7 1

@@ -30,10 +30,10 @@ turn_agree m r s g = record { corners = corners; edges = edges; inners = inners 
     inners Ca = g.inners Ab
 
 -- a formula that agreeing rings read alike, and its turns
-pub turns-agree :
+pub turns_agree :
     {Y : Type 0} (m : ℕ) (f : Ring ℕ → List Y) → ((r s : Ring ℕ) → Agree m r s → f r ≡ f s)
     → (r s : Ring ℕ) → Agree m r s → turns f r ≡ turns f s
-turns-agree m f h r s g =
+turns_agree m f h r s g =
     let g' : Agree m (turn r) (turn s) = turn_agree m r s g in
     ap₂ (λ x y. x ++ y) (h r s g)
     (ap₂ (λ x y. x ++ y) (h (turn r) (turn s) g') (h (turn (turn r)) (turn (turn s)) (turn_agree m (turn r) (turn s) g')))

@@ -70,12 +70,12 @@ pos_more rs d i e k Ab = refl
 pos_more rs d i e k Bc = refl
 pos_more rs d i e k Ca = refl
 
-pub more-side :
+pub more_side :
     (rs : List Ring) (i k : ℕ) (s : Side) (l : List ℕ) (r : Option ℕ) (d : ℕ) → 0 < d → l ≡ side_of (ring_at rs i) s → length l ≡ (ring_at rs i).len
     → r ≡ position (length l + 2) k (on_side (start (ring_at rs i) s) (length l) (λ j. get_or l j 0) (stop (ring_at rs i) s) k)
     → PositionOf (pos_of s) (held_view rs d (kind.More i)) k r
-more-side rs i k s l r zero h f n q e = absurd (omega arith)
-more-side rs i k s l r (suc d) h f n q e =
+more_side rs i k s l r zero h f n q e = absurd (omega arith)
+more_side rs i k s l r (suc d) h f n q e =
     let g : Ring = ring_at rs i in
     let two : length l + 2 ≡ suc (suc g.len) = omega arith in
     q ∙ ap₂ (λ m x. position m k x) two

@@ -1,7 +1,7 @@
 -- Contents that go with edges of m vertices are those of count m.
 use Rattle.std.proofs.Common.{◌≡◌, ℕ, zero, suc, ◌+◌, ◌≤◌, List, sym, subst, arith}
 use Rattle.pattern.specs.Ring.{Contents, one, three, six, more}
-use Rattle.pattern.proofs.Sized.{Sized, sized_0, sized_1, sized_2, sized_3, sized_4, sized-more}
+use Rattle.pattern.proofs.Sized.{Sized, sized_0, sized_1, sized_2, sized_3, sized_4, sized_more}
 use Rattle.rings.specs.declared.contents.Ring.{Ring}
 use Rattle.rings.specs.declared.contents.TriangleContents.{TriangleContents}
 use Rattle.rings.specs.declared.contents.TriangleContents.TheVariants as kind
@@ -24,4 +24,4 @@ sized rs (suc d) m (kind.More i) h = around (ring_at rs i).len h.1 h.2 (sized rs
     around (suc zero) e l z = absurd (omega arith)
     around {a = a} {b = b} {c = c} {ab = ab} {bc = bc} {ca = ca} {t = t} (suc (suc k)) e l z =
         let q : suc (suc (suc (suc (suc k)))) ≡ m = omega arith in
-        subst (λ (n : ℕ). Sized n (more a b c (suc (suc k)) ab bc ca t)) q (sized-more z)
+        subst (λ (n : ℕ). Sized n (more a b c (suc (suc k)) ab bc ca t)) q (sized_more z)

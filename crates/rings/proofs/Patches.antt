@@ -18,9 +18,9 @@ use Rattle.rings.specs.Views.{corner_at, edge_at, inner_at, inside, ring_of_view
 use Rattle.rings.proofs.Agree.{Agree}
 use Rattle.rings.proofs.Shown.{slice_at}
 
-read-long : (l : List ℕ) (b : Bool) (s : Slice) → Reads l b s → length (read s) ≡ length l
-read-long l b (Forward s) h = ap length h.1
-read-long l b (Backward s) h = length-reverse s.now ∙ ap length h.1
+read_long : (l : List ℕ) (b : Bool) (s : Slice) → Reads l b s → length (read s) ≡ length l
+read_long l b (Forward s) h = ap length h.1
+read_long l b (Backward s) h = length-reverse s.now ∙ ap length h.1
 
 read_at : (l : List ℕ) (n : ℕ) (b : Bool) (s : Slice) (j : ℕ) → length l ≡ n → Reads l b s → j < n → get_or (read s) j 0 ≡ get_or l (turned n b j) 0
 read_at l n b (Forward s) j e h lt = ap (λ x. get_or x j 0) h.1 ∙ sym (ap (λ c. get_or l (turned n c j) 0) h.0)
@@ -41,19 +41,19 @@ module _ (n : ℕ) (E : ℕ → List ℕ) (t : Patch) (w : RingView) (s : ShowsP
   on_side Bc = s.on_bc
   on_side Ca = s.on_ca
 
-  below-three : (k : Side) → side_number k < 3
-  below-three Ab = omega arith
-  below-three Bc = omega arith
-  below-three Ca = omega arith
+  below_three : (k : Side) → side_number k < 3
+  below_three Ab = omega arith
+  below_three Bc = omega arith
+  below_three Ca = omega arith
 
   pub long_patch : (k : Side) → length (read (slice_at k w)) ≡ n
   long_patch k =
-      read-long (E (t.tri.edge (side_number k))) (t.forth (side_number k)) (slice_at k w) (on_side k) ∙ s.long (side_number k) (below-three k)
+      read_long (E (t.tri.edge (side_number k))) (t.forth (side_number k)) (slice_at k w) (on_side k) ∙ s.long (side_number k) (below_three k)
 
   -- what the triangle reads along a side, position by position
   pub read_patch : (k : Side) (j : ℕ) → j < n → get_or (read (slice_at k w)) j 0 ≡ reading n E t (side_number k) j
   read_patch k j lt =
-      read_at (E (t.tri.edge (side_number k))) n (t.forth (side_number k)) (slice_at k w) j (s.long (side_number k) (below-three k)) (on_side k) lt
+      read_at (E (t.tri.edge (side_number k))) n (t.forth (side_number k)) (slice_at k w) j (s.long (side_number k) (below_three k)) (on_side k) lt
 
   pub whole_patch : Whole (length (read w.ab)) w
   whole_patch =
@@ -66,15 +66,15 @@ module _ (n : ℕ) (E : ℕ → List ℕ) (t : Patch) (w : RingView) (s : ShowsP
       }
 
   pub patch_inside : inside w ≡ view t.inner
-  patch_inside = ap view s.inner-is
+  patch_inside = ap view s.inner_is
 
   pub patch_agrees : Agree n (ring_of_view w) (patch_ring n E t)
   patch_agrees = record { corners = corners; edges = edges; inners = inners }
     where
       corners : (k : Side) → corner_at k (ring_of_view w) ≡ corner_at k (patch_ring n E t)
-      corners Ab = s.a-is
-      corners Bc = s.b-is
-      corners Ca = s.c-is
+      corners Ab = s.a_is
+      corners Bc = s.b_is
+      corners Ca = s.c_is
 
       edges : (k : Side) (i : ℕ) → i < n → edge_at k (ring_of_view w) i ≡ edge_at k (patch_ring n E t) i
       edges Ab = read_patch Ab
@@ -82,6 +82,6 @@ module _ (n : ℕ) (E : ℕ → List ℕ) (t : Patch) (w : RingView) (s : ShowsP
       edges Ca = read_patch Ca
 
       inners : (k : Side) (i : ℕ) → inner_at k (ring_of_view w) i ≡ inner_at k (patch_ring n E t) i
-      inners Ab i = ap₂ (λ x c. pos_ab x c i) s.a-is patch_inside
-      inners Bc i = ap₂ (λ x c. pos_bc x c i) s.a-is patch_inside
-      inners Ca i = ap₂ (λ x c. pos_ca x c i) s.a-is patch_inside
+      inners Ab i = ap₂ (λ x c. pos_ab x c i) s.a_is patch_inside
+      inners Bc i = ap₂ (λ x c. pos_bc x c i) s.a_is patch_inside
+      inners Ca i = ap₂ (λ x c. pos_ca x c i) s.a_is patch_inside

@@ -57,31 +57,31 @@ table_ring rs d i =
 
 -- w shows ring i of the table, its sides read forward
 pub record Shows (rs : List Ring) (d i : ℕ) (w : RingView) : Type 0 where
-  pub a-is : w.a ≡ (ring_at rs i).a
-  pub b-is : w.b ≡ (ring_at rs i).b
-  pub c-is : w.c ≡ (ring_at rs i).c
-  pub ab-is : read w.ab ≡ side_of (ring_at rs i) Ab
-  pub bc-is : read w.bc ≡ side_of (ring_at rs i) Bc
-  pub ca-is : read w.ca ≡ side_of (ring_at rs i) Ca
-  pub ab-forth : Forth w.ab
-  pub bc-forth : Forth w.bc
-  pub ca-forth : Forth w.ca
-  pub ab-long : length (read w.ab) ≡ (ring_at rs i).len
-  pub bc-long : length (read w.bc) ≡ (ring_at rs i).len
-  pub ca-long : length (read w.ca) ≡ (ring_at rs i).len
-  pub inner-is : w.inner ≡ (ring_at rs i).inner
+  pub a_is : w.a ≡ (ring_at rs i).a
+  pub b_is : w.b ≡ (ring_at rs i).b
+  pub c_is : w.c ≡ (ring_at rs i).c
+  pub ab_is : read w.ab ≡ side_of (ring_at rs i) Ab
+  pub bc_is : read w.bc ≡ side_of (ring_at rs i) Bc
+  pub ca_is : read w.ca ≡ side_of (ring_at rs i) Ca
+  pub ab_forth : Forth w.ab
+  pub bc_forth : Forth w.bc
+  pub ca_forth : Forth w.ca
+  pub ab_long : length (read w.ab) ≡ (ring_at rs i).len
+  pub bc_long : length (read w.bc) ≡ (ring_at rs i).len
+  pub ca_long : length (read w.ca) ≡ (ring_at rs i).len
+  pub inner_is : w.inner ≡ (ring_at rs i).inner
   pub rings_are : w.rings.now ≡ rs
   pub depth_is : w.depth ≡ d
 
 -- w shows a triangle of a mesh at count n, where E has the vertices of each edge
 pub record ShowsPatch (n : ℕ) (E : ℕ → List ℕ) (t : Patch) (w : RingView) : Type 0 where
-  pub a-is : w.a ≡ t.tri.corner 0
-  pub b-is : w.b ≡ t.tri.corner 1
-  pub c-is : w.c ≡ t.tri.corner 2
+  pub a_is : w.a ≡ t.tri.corner 0
+  pub b_is : w.b ≡ t.tri.corner 1
+  pub c_is : w.c ≡ t.tri.corner 2
   pub on_ab : Reads (E (t.tri.edge 0)) (t.forth 0) w.ab
   pub on_bc : Reads (E (t.tri.edge 1)) (t.forth 1) w.bc
   pub on_ca : Reads (E (t.tri.edge 2)) (t.forth 2) w.ca
   pub long : (k : ℕ) → k < 3 → length (E (t.tri.edge k)) ≡ n
-  pub inner-is : held w.rings.now w.depth w.inner ≡ t.inner
+  pub inner_is : held w.rings.now w.depth w.inner ≡ t.inner
   pub few : n ≤ 12
   pub goes : Fits w.rings.now w.depth n w.inner

@@ -1,7 +1,7 @@
 -- Interpolation along a list of vertices, place by place.
 use Rattle.std.proofs.Common.{◌≡◌, ℕ, zero, suc, ◌+◌, ◌<◌, ◌≤◌, true, false, ltb, ◌≢◌, List, [], ◌∷◌, length, get_or, drop, set, sym, refl, ap, ◌∙◌, add-one, arith, length-set, get_or-set_other, get_or-set_same}
 use Rattle.std.proofs.lemmas.List.{drop_more}
-use Rattle.shape.specs.Listing.{all-below, placed, Listed}
+use Rattle.shape.specs.Listing.{all_below, placed, Listed}
 use Rattle.shape.proofs.Booleans.{and_no, and_left, and_right}
 
 lt→is : (a b : ℕ) → a < b → ltb a b ≡ true
@@ -13,24 +13,24 @@ is→lt a b h = grind arith
 not_below : (a b : ℕ) → b ≤ a → ltb a b ≡ false
 not_below a b h = grind arith
 
-pub below_no : (xs : List ℕ) (i n d : ℕ) → i < length xs → n ≤ get_or xs i d → all-below xs n ≡ false
+pub below_no : (xs : List ℕ) (i n d : ℕ) → i < length xs → n ≤ get_or xs i d → all_below xs n ≡ false
 below_no [] i n d h k = absurd (omega arith)
 below_no (x ∷ xs) zero n d h k = rw (not_below x n k)
 below_no (x ∷ xs) (suc i) n d h k = let l : i < length xs = omega arith in rw (below_no xs i n d l k) (and_no (ltb x n))
 
-pub below_more : (xs : List ℕ) (i n : ℕ) → i < length xs → get_or xs i 0 < n → all-below (drop i xs) n ≡ all-below (drop (i + 1) xs) n
+pub below_more : (xs : List ℕ) (i n : ℕ) → i < length xs → get_or xs i 0 < n → all_below (drop i xs) n ≡ all_below (drop (i + 1) xs) n
 below_more xs i n h k = rw (drop_more xs i 0 h) (rw (lt→is (get_or xs i 0) n k) refl)
 
-pub below_yes : (xs : List ℕ) (i n d : ℕ) → i < length xs → all-below xs n ≡ true → get_or xs i d < n
+pub below_yes : (xs : List ℕ) (i n d : ℕ) → i < length xs → all_below xs n ≡ true → get_or xs i d < n
 below_yes [] i n d h k = absurd (omega arith)
-below_yes (x ∷ xs) zero n d h k = is→lt x n (and_left (ltb x n) (all-below xs n) k)
-below_yes (x ∷ xs) (suc i) n d h k = let l : i < length xs = omega arith in below_yes xs i n d l (and_right (ltb x n) (all-below xs n) k)
+below_yes (x ∷ xs) zero n d h k = is→lt x n (and_left (ltb x n) (all_below xs n) k)
+below_yes (x ∷ xs) (suc i) n d h k = let l : i < length xs = omega arith in below_yes xs i n d l (and_right (ltb x n) (all_below xs n) k)
 
 module _ {X : Type 0} (g : ℕ → X) where
-  pub placed-more :
+  pub placed_more :
       (xs : List ℕ) (i : ℕ) (l : List X) (v : X) → i < length xs → v ≡ g i
       → placed g i (drop i xs) l ≡ placed g (i + 1) (drop (i + 1) xs) (set l (get_or xs i 0) v)
-  placed-more xs i l v h e =
+  placed_more xs i l v h e =
       ap (λ ys. placed g i ys l) (drop_more xs i 0 h)
       ∙ ap (λ j. placed g j (drop (i + 1) xs) (set l (get_or xs i 0) (g i))) (sym (add-one i))
       ∙ ap (λ w. placed g (i + 1) (drop (i + 1) xs) (set l (get_or xs i 0) w)) (sym e)
@@ -39,31 +39,31 @@ module _ {X : Type 0} (g : ℕ → X) where
   placed-length [] i l = refl
   placed-length (x ∷ xs) i l = placed-length xs (suc i) (set l x (g i)) ∙ length-set l x (g i)
 
-  placed-other :
+  placed_other :
       (xs : List ℕ) (i : ℕ) (l : List X) (k : ℕ) (d : X) → ((j : ℕ) → j < length xs → get_or xs j 0 ≡ k → ⊥)
       → get_or (placed g i xs l) k d ≡ get_or l k d
-  placed-other [] i l k d f = refl
-  placed-other (x ∷ xs) i l k d f =
-      placed-other xs (suc i) (set l x (g i)) k d (λ j h e. f (suc j) (omega arith) e)
+  placed_other [] i l k d f = refl
+  placed_other (x ∷ xs) i l k d f =
+      placed_other xs (suc i) (set l x (g i)) k d (λ j h e. f (suc j) (omega arith) e)
       ∙ (let ne : k ≢ x = λ e. f 0 (omega arith) (sym e) in get_or-set_other l x k (g i) d ne)
 
-  placed-last :
+  placed_last :
       (xs : List ℕ) (i : ℕ) (l : List X) (j : ℕ) (d : X) → j < length xs
       → ((k : ℕ) → j < k → k < length xs → get_or xs k 0 ≡ get_or xs j 0 → ⊥) → get_or xs j 0 < length l
       → get_or (placed g i xs l) (get_or xs j 0) d ≡ g (i + j)
-  placed-last [] i l j d h f b = absurd (omega arith)
-  placed-last (x ∷ xs) i l zero d h f b =
-      placed-other xs (suc i) (set l x (g i)) x d (λ k m e. f (suc k) (omega arith) (omega arith) e)
+  placed_last [] i l j d h f b = absurd (omega arith)
+  placed_last (x ∷ xs) i l zero d h f b =
+      placed_other xs (suc i) (set l x (g i)) x d (λ k m e. f (suc k) (omega arith) (omega arith) e)
       ∙ get_or-set_same l x (g i) d b ∙ ap g (let z : i ≡ i + 0 = omega arith in z)
-  placed-last (x ∷ xs) i l (suc j) d h f b =
+  placed_last (x ∷ xs) i l (suc j) d h f b =
       let e : length (set l x (g i)) ≡ length l = length-set l x (g i) in
-      placed-last xs (suc i) (set l x (g i)) j d (omega arith) (λ k m n e. f (suc k) (omega arith) (omega arith) e) (omega arith)
+      placed_last xs (suc i) (set l x (g i)) j d (omega arith) (λ k m n e. f (suc k) (omega arith) (omega arith) e) (omega arith)
       ∙ ap g (let z : suc i + j ≡ i + suc j = omega arith in z)
 
   pub placed_listed : (xs : List ℕ) (l : List X) → Listed g xs l (placed g 0 xs l)
   placed_listed xs l =
       record {
         same_length = placed-length xs 0 l;
-        last-stands = λ i d h f b. placed-last xs 0 l i d h f b ∙ ap g (let z : 0 + i ≡ i = omega arith in z);
-        others_left = λ k d f. placed-other xs 0 l k d f;
+        last_stands = λ i d h f b. placed_last xs 0 l i d h f b ∙ ap g (let z : 0 + i ≡ i = omega arith in z);
+        others_left = λ k d f. placed_other xs 0 l k d f;
       }

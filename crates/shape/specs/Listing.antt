@@ -10,13 +10,13 @@ use Rattle.refusal.specs.declared.Refusal.TheVariants.{InvalidListing}
 abbrev pub share : ℕ → ℕ → Float
 share i n = div binary32 (of_int binary32 (pos (i + 1))) (of_int binary32 (pos (n + 1)))
 
-abbrev pub all-below : List ℕ → ℕ → Bool
-all-below [] n = true
-all-below (x ∷ xs) n = nat_lt x n && all-below xs n
+abbrev pub all_below : List ℕ → ℕ → Bool
+all_below [] n = true
+all_below (x ∷ xs) n = nat_lt x n && all_below xs n
 
 -- at most 3,360 vertices are listed, each one of the n points
 abbrev pub listable : List ℕ → ℕ → Bool
-listable xs n = nat_le (length xs) 3360 && all-below xs n
+listable xs n = nat_le (length xs) 3360 && all_below xs n
 
 module _ {X : Type 0} where
   -- g i at the first listed place, g (i + 1) at the next, and so on, in turn
@@ -27,7 +27,7 @@ module _ {X : Type 0} where
   -- what `placed g 0 xs old` is: each listed place holds what its last listing gives it, and every other place what it held
   pub record Listed (g : ℕ → X) (xs : List ℕ) (old new : List X) : Type 0 where
     pub same_length : length new ≡ length old
-    pub last-stands :
+    pub last_stands :
         (i : ℕ) (d : X) → i < length xs → ((j : ℕ) → i < j → j < length xs → slice_index xs j ≢ slice_index xs i) → slice_index xs i < length old
         → slice_index_or new (slice_index xs i) d ≡ g i
     pub others_left : (k : ℕ) (d : X) → ((i : ℕ) → i < length xs → slice_index xs i ≢ k) → slice_index_or new k d ≡ slice_index_or old k d

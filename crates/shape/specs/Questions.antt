@@ -37,8 +37,8 @@ DifferentCorners ts = Each ThreeCorners ts
 
 -- 6: each edge number joins one pair of corners, and each pair has one edge number
 pub record EdgesMatch (ts : List Triangle) : Type 0 where
-  pub one-pair : (u v : Use) → In u (uses ts) → In v (uses ts) → u.edge ≡ v.edge → SameEnds u v
-  pub one-edge : (u v : Use) → In u (uses ts) → In v (uses ts) → SameEnds u v → u.edge ≡ v.edge
+  pub one_pair : (u v : Use) → In u (uses ts) → In v (uses ts) → u.edge ≡ v.edge → SameEnds u v
+  pub one_edge : (u v : Use) → In u (uses ts) → In v (uses ts) → SameEnds u v → u.edge ≡ v.edge
 
 -- 7: each edge is used at most once in each direction
 abbrev pub OneWayEach : List Triangle → Type 0

@@ -42,7 +42,7 @@ mark_push u xs x h n =
     let e = ap split_at_marks (take_more_set xs u x h) ∙ split_push (take u xs) x n in
     record {
       closed_is = ap (λ p. p.0) e;
-      last-is = ap (λ p. p.1) e;
+      last_is = ap (λ p. p.1) e;
       takes_still = λ p b t. one_less (length xs) (suc p + b) (p + b) u (length (set xs u x)) (length-set xs u x) (omega arith) t;
     }
 
@@ -51,6 +51,6 @@ mark_break u xs h =
     let e = ap split_at_marks (take_more_set xs u 4294967295 h) ∙ split_break (take u xs) in
     record {
       closed_is = ap (λ p. p.0) e;
-      last-is = ap (λ p. p.1) e;
+      last_is = ap (λ p. p.1) e;
       takes_still = λ p b t. one_less (length xs) (p + suc b) (p + b) u (length (set xs u 4294967295)) (length-set xs u 4294967295) (omega arith) t;
     }

@@ -14,9 +14,9 @@ at_most n zero es w = tt
 at_most n (suc b) [] w = tt
 at_most n (suc b) (e ∷ es) w = (w 0 (omega arith), at_most n b es (λ k h. w (suc k) (omega arith)))
 
-last-at_most : (n f : ℕ) (es : List ℕ) → f ≤ n → AtMost n es → last_start f es ≤ n
-last-at_most n f [] h a = h
-last-at_most n f (e ∷ es) h a = last-at_most n e es a.0 a.1
+last_at_most : (n f : ℕ) (es : List ℕ) → f ≤ n → AtMost n es → last_start f es ≤ n
+last_at_most n f [] h a = h
+last_at_most n f (e ∷ es) h a = last_at_most n e es a.0 a.1
 
 cut_push : (f : ℕ) (es xs ys : List ℕ) → AtMost (length xs) es → cut_at f es (xs ++ ys) ≡ cut_at f es xs
 cut_push f [] xs ys a = refl
@@ -58,10 +58,10 @@ start_push u xs b es x h w =
     let e : take (u + 1) (set xs u x) ≡ take u xs ++ (x ∷ []) = take_more_set xs u x h in
     let long : length (take u xs) ≡ u = length-take-le u xs (omega arith) in
     let a : AtMost (length (take u xs)) (take b es) = subst (λ (n : ℕ). AtMost n (take b es)) (sym long) (at_most u b es w) in
-    let m : last_start 0 (take b es) ≤ length (take u xs) = last-at_most (length (take u xs)) 0 (take b es) (omega arith) a in
+    let m : last_start 0 (take b es) ≤ length (take u xs) = last_at_most (length (take u xs)) 0 (take b es) (omega arith) a in
     record {
       closed_is = ap (cut_at 0 (take b es)) e ∙ cut_push 0 (take b es) (take u xs) (x ∷ []) a;
-      last-is = ap (drop (last_start 0 (take b es))) e ∙ drop-append-le (last_start 0 (take b es)) (take u xs) (x ∷ []) m;
+      last_is = ap (drop (last_start 0 (take b es))) e ∙ drop-append-le (last_start 0 (take b es)) (take u xs) (x ∷ []) m;
       takes_still = λ p d t.
           let A = leb (suc p) (length xs - u) in
           let B = leb d (length es - b) in
@@ -78,7 +78,7 @@ start_break u xs b es h =
       closed_is =
           ap (λ l. cut_at 0 l (take u xs)) e ∙ cut_break 0 (take b es) (take u xs) u
           ∙ ap (λ l. cut_at 0 (take b es) (take u xs) ++ (drop (last_start 0 (take b es)) l ∷ [])) all;
-      last-is = ap (λ l. drop (last_start 0 l) (take u xs)) e ∙ ap (λ n. drop n (take u xs)) (last_break 0 (take b es) u) ∙ drop_taken u xs;
+      last_is = ap (λ l. drop (last_start 0 l) (take u xs)) e ∙ ap (λ n. drop n (take u xs)) (last_break 0 (take b es) u) ∙ drop_taken u xs;
       takes_still = λ p d t.
           let A = leb p (length xs - u) in
           let B = leb (suc d) (length es - b) in

@@ -7,7 +7,7 @@ use Rattle.mesh.specs.Sinks.{Sink, Pushed, Broken}
 
 -- no strip is closed, and nothing is in the open one
 pub record Empty (s : Sink) : Type 0 where
-  pub none-closed : s.closed ≡ []
+  pub none_closed : s.closed ≡ []
   pub none_open : s.last ≡ []
 
 -- 15, exactly if the p numbers and b breaks cannot be taken

@@ -4,10 +4,10 @@ use lib.ListN.{length-map}
 use Rattle.growing.specs.declared.edge.Edge.{Edge}
 use Rattle.growing.specs.Edges.{edge_in, edge_vertices, len_at}
 use Rattle.growing.specs.Standing.{numbering}
-use Rattle.growing.proofs.Tables.{edge-long, edge_of_lem}
+use Rattle.growing.proofs.Tables.{edge_long, edge_of_lem}
 use Rattle.growing.specs.Standing.{WithinLimits}
 use Rattle.mesh.proofs.Blank.{blank_stands}
-use Rattle.mesh.proofs.Counted.{vertices-once}
+use Rattle.mesh.proofs.Counted.{vertices_once}
 use Rattle.mesh.proofs.Invariant.{Inv, reached_inv}
 use Rattle.mesh.specs.Numbering.{Reached, edge_of}
 use Rattle.rings.specs.declared.contents.Ring.{Ring}
@@ -39,7 +39,7 @@ module _ (P : ℕ) (ts : List Triangle) (fs : List Forward) (es : List Edge) (cs
   few = inv.small
 
   pub contents_many : length cs ≡ length ts
-  contents_many = sym (length-map cs (held rs 3)) ∙ inv.contents-count
+  contents_many = sym (length-map cs (held rs 3)) ∙ inv.contents_count
 
   pub forward_many : length fs ≡ length ts
   forward_many = ap length S.reads ∙ forwards_many [] ts
@@ -51,24 +51,24 @@ module _ (P : ℕ) (ts : List Triangle) (fs : List Forward) (es : List Edge) (cs
         | inr N ↦ let e : length ts ≡ 0 = ap length N.no_triangles in absurd (let z : ⊥ = omega arith in z)
       ]
 
-  pub edges-below : (i : ℕ) → i < length ts → EdgesBelow (length es) (triangle_at ts i)
-  edges-below i h = let b = in_range i h in (b.ab<E, b.bc<E, b.ca<E)
+  pub edges_below : (i : ℕ) → i < length ts → EdgesBelow (length es) (triangle_at ts i)
+  edges_below i h = let b = in_range i h in (b.ab<E, b.bc<E, b.ca<E)
 
   pub short : (e : ℕ) → e < length es → len_at es e ≤ 12
   short e h = let l : len_at es e ≡ n = (S.stands.edges e h).len in let f = few in omega arith
 
-  pub edge-is : (e : ℕ) → e < length es → edge_vertices (edge_in es e) ≡ edge_of (numbering n total es cs rs) e
-  edge-is e h = sym (edge_of_lem n total e es cs rs h)
+  pub edge_is : (e : ℕ) → e < length es → edge_vertices (edge_in es e) ≡ edge_of (numbering n total es cs rs) e
+  edge_is e h = sym (edge_of_lem n total e es cs rs h)
 
   pub edge_many : (e : ℕ) → e < length es → length (edge_of (numbering n total es cs rs) e) ≡ n
-  edge_many e h = ap length (edge_of_lem n total e es cs rs h) ∙ edge-long n es cs rs S.stands few e h
+  edge_many e h = ap length (edge_of_lem n total e es cs rs h) ∙ edge_long n es cs rs S.stands few e h
 
   pub goes : (i : ℕ) → i < length ts → Fits rs 3 n (kind_at cs i)
   goes i h = let k : i < length cs = let e = contents_many in omega arith in (S.stands.contents i k).fits
 
   -- a mesh over no base is blank
-  pub blank-reached : NoBase P (length es) ts → Reached 0 0 [] (numbering n total es cs rs)
-  blank-reached N =
+  pub blank_reached : NoBase P (length es) ts → Reached 0 0 [] (numbering n total es cs rs)
+  blank_reached N =
       subst (λ (l : List Triangle). Reached 0 0 l (numbering n total es cs rs)) N.no_triangles
       (subst (λ (e : ℕ). Reached 0 e ts (numbering n total es cs rs)) N.no_edges
       (subst (λ (p : ℕ). Reached p (length es) ts (numbering n total es cs rs)) N.no_points S.reached))
@@ -77,13 +77,13 @@ module _ (P : ℕ) (ts : List Triangle) (fs : List Forward) (es : List Edge) (cs
   limits =
       elim S.base [
         | inl A ↦ record {
-          few-edges = A.sizes.edges.1;
-          few-triangles = let f = A.triangles.few in let e = contents_many in omega arith;
-          few-vertices = (vertices-once P (length es) ts A (numbering n total es cs rs) S.reached).fits;
+          few_edges = A.sizes.edges.1;
+          few_triangles = let f = A.triangles.few in let e = contents_many in omega arith;
+          few_vertices = (vertices_once P (length es) ts A (numbering n total es cs rs) S.reached).fits;
         }
         | inr N ↦ record {
-          few-edges = let e = N.no_edges in omega arith;
-          few-triangles = let e : length ts ≡ 0 = ap length N.no_triangles in let f = contents_many in omega arith;
-          few-vertices = let z : total ≡ 0 = (blank_stands (numbering n total es cs rs) (blank-reached N)).no_vertex in omega arith;
+          few_edges = let e = N.no_edges in omega arith;
+          few_triangles = let e : length ts ≡ 0 = ap length N.no_triangles in let f = contents_many in omega arith;
+          few_vertices = let z : total ≡ 0 = (blank_stands (numbering n total es cs rs) (blank_reached N)).no_vertex in omega arith;
         }
       ]

@@ -47,10 +47,10 @@ module _ (P : ℕ) (ts : List Triangle) (fs : List Forward) (es : List Edge) (cs
     sound_grown few st S = ∥∥₁_map S (grown_sound few st)
 
 -- three lists at once
-pub numbering-same :
+pub numbering_same :
     (n total : ℕ) (es es' : List Edge) (cs cs' : List TriangleContents) (rs rs' : List Ring) → es ≡ es' → cs ≡ cs' → rs ≡ rs'
     → numbering n total es cs rs ≡ numbering n total es' cs' rs'
-numbering-same n total es es' cs cs' rs rs' p q r = λ i. numbering n total (p i) (q i) (r i)
+numbering_same n total es es' cs cs' rs rs' p q r = λ i. numbering n total (p i) (q i) (r i)
 
 pub stands_same :
     (n : ℕ) (es es' : List Edge) (cs cs' : List TriangleContents) (rs rs' : List Ring) → es ≡ es' → cs ≡ cs' → rs ≡ rs'

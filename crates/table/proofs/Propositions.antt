@@ -34,7 +34,7 @@ stands_prop n es cs rs = λ x y j.
 pub limits_prop : (E T total : ℕ) → IsProp (WithinLimits E T total)
 limits_prop E T total = λ x y j.
     record {
-      few-edges = le_prop x.few-edges y.few-edges j;
-      few-triangles = le_prop x.few-triangles y.few-triangles j;
-      few-vertices = le_prop x.few-vertices y.few-vertices j;
+      few_edges = le_prop x.few_edges y.few_edges j;
+      few_triangles = le_prop x.few_triangles y.few_triangles j;
+      few_vertices = le_prop x.few_vertices y.few_vertices j;
     }

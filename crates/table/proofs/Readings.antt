@@ -15,6 +15,6 @@ pub seen_more : (seen : List ℕ) (ts : List Triangle) (t : Triangle) → seen_f
 seen_more seen [] t = refl
 seen_more seen (s ∷ ts) t = seen_more (s.ca ∷ s.bc ∷ s.ab ∷ seen) ts t
 
-pub forwards-more : (seen : List ℕ) (ts : List Triangle) (t : Triangle) → forwards_from seen (ts ++ (t ∷ [])) ≡ forwards_from seen ts ++ (forward_of (seen_from seen ts) t ∷ [])
-forwards-more seen [] t = refl
-forwards-more seen (s ∷ ts) t = ap (λ l. forward_of seen s ∷ l) (forwards-more (s.ca ∷ s.bc ∷ s.ab ∷ seen) ts t)
+pub forwards_more : (seen : List ℕ) (ts : List Triangle) (t : Triangle) → forwards_from seen (ts ++ (t ∷ [])) ≡ forwards_from seen ts ++ (forward_of (seen_from seen ts) t ∷ [])
+forwards_more seen [] t = refl
+forwards_more seen (s ∷ ts) t = ap (λ l. forward_of seen s ∷ l) (forwards_more (s.ca ∷ s.bc ∷ s.ab ∷ seen) ts t)

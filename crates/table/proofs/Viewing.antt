@@ -29,32 +29,32 @@ reads_same l m b s e h = subst (λ (x : List ℕ). Reads x b s) e h
 
 module _ (P : ℕ) (ts : List Triangle) (fs : List Forward) (es : List Edge) (cs : List TriangleContents) (rs : List Ring) (n total : ℕ)
     (S : ∥ Sound P ts fs es cs rs n total ∥₁) (i : ℕ) (h : i < length ts) where
-  forward-within : i < length fs
-  forward-within = ∥∥₁_elim S le_prop (λ s. let e = facts.forward_many P ts fs es cs rs n total s in omega arith)
+  forward_within : i < length fs
+  forward_within = ∥∥₁_elim S le_prop (λ s. let e = facts.forward_many P ts fs es cs rs n total s in omega arith)
 
-  contents-within : i < length cs
-  contents-within = ∥∥₁_elim S le_prop (λ s. let e = facts.contents_many P ts fs es cs rs n total s in omega arith)
+  contents_within : i < length cs
+  contents_within = ∥∥₁_elim S le_prop (λ s. let e = facts.contents_many P ts fs es cs rs n total s in omega arith)
 
-  edges-within : EdgesBelow (length es) (triangle_at ts i)
-  edges-within = (
-    ∥∥₁_elim S le_prop (λ s. (facts.edges-below P ts fs es cs rs n total s i h).0),
-    ∥∥₁_elim S le_prop (λ s. (facts.edges-below P ts fs es cs rs n total s i h).1),
-    ∥∥₁_elim S le_prop (λ s. (facts.edges-below P ts fs es cs rs n total s i h).2),
+  edges_within : EdgesBelow (length es) (triangle_at ts i)
+  edges_within = (
+    ∥∥₁_elim S le_prop (λ s. (facts.edges_below P ts fs es cs rs n total s i h).0),
+    ∥∥₁_elim S le_prop (λ s. (facts.edges_below P ts fs es cs rs n total s i h).1),
+    ∥∥₁_elim S le_prop (λ s. (facts.edges_below P ts fs es cs rs n total s i h).2),
   )
 
-  edges-short : (e : ℕ) → e < length es → len_at es e ≤ 12
-  edges-short e l = ∥∥₁_elim S le_prop (λ s. facts.short P ts fs es cs rs n total s e l)
+  edges_short : (e : ℕ) → e < length es → len_at es e ≤ 12
+  edges_short e l = ∥∥₁_elim S le_prop (λ s. facts.short P ts fs es cs rs n total s e l)
 
   pub viewable : Viewable ts fs es cs i
-  viewable = record { triangle = h; readings = forward-within; contents = contents-within; edges = edges-within; short = edges-short }
+  viewable = record { triangle = h; readings = forward_within; contents = contents_within; edges = edges_within; short = edges_short }
 
   long : (e : ℕ) → e < length es → length (edge_of (numbering n total es cs rs) e) ≡ n
   long e l = ∥∥₁_elim S (ℕ_set (length (edge_of (numbering n total es cs rs) e)) n) (λ s. facts.edge_many P ts fs es cs rs n total s e l)
 
-  side-long : (k : ℕ) → k < 3 → length (edge_of (numbering n total es cs rs) ((patch_at ts fs cs rs i).tri.edge k)) ≡ n
-  side-long zero l = long (triangle_at ts i).ab edges-within.0
-  side-long (suc zero) l = long (triangle_at ts i).bc edges-within.1
-  side-long (suc (suc k)) l = long (triangle_at ts i).ca edges-within.2
+  side_long : (k : ℕ) → k < 3 → length (edge_of (numbering n total es cs rs) ((patch_at ts fs cs rs i).tri.edge k)) ≡ n
+  side_long zero l = long (triangle_at ts i).ab edges_within.0
+  side_long (suc zero) l = long (triangle_at ts i).bc edges_within.1
+  side_long (suc (suc k)) l = long (triangle_at ts i).ca edges_within.2
 
   fits : Fits rs 3 n (kind_at cs i)
   fits = ∥∥₁_elim S (fits_prop rs 3 n (kind_at cs i)) (λ s. facts.goes P ts fs es cs rs n total s i h)
@@ -70,18 +70,18 @@ module _ (P : ℕ) (ts : List Triangle) (fs : List Forward) (es : List Edge) (cs
       let t : Triangle = triangle_at ts i in
       let f : Forward = forward_at fs i in
       record {
-        a-is = v.a-is;
-        b-is = v.b-is;
-        c-is = v.c-is;
-        on_ab = reads_same (edge_vertices (edge_in es t.ab)) (edge_of (numbering n total es cs rs) t.ab) f.ab w.ab (same t.ab edges-within.0) v.on_ab;
-        on_bc = reads_same (edge_vertices (edge_in es t.bc)) (edge_of (numbering n total es cs rs) t.bc) f.bc w.bc (same t.bc edges-within.1) v.on_bc;
-        on_ca = reads_same (edge_vertices (edge_in es t.ca)) (edge_of (numbering n total es cs rs) t.ca) f.ca w.ca (same t.ca edges-within.2) v.on_ca;
-        long = side-long;
-        inner-is = ap (λ l. held l w.depth w.inner) v.rings_are ∙ ap₂ (held rs) v.depth_is v.inner-is;
+        a_is = v.a_is;
+        b_is = v.b_is;
+        c_is = v.c_is;
+        on_ab = reads_same (edge_vertices (edge_in es t.ab)) (edge_of (numbering n total es cs rs) t.ab) f.ab w.ab (same t.ab edges_within.0) v.on_ab;
+        on_bc = reads_same (edge_vertices (edge_in es t.bc)) (edge_of (numbering n total es cs rs) t.bc) f.bc w.bc (same t.bc edges_within.1) v.on_bc;
+        on_ca = reads_same (edge_vertices (edge_in es t.ca)) (edge_of (numbering n total es cs rs) t.ca) f.ca w.ca (same t.ca edges_within.2) v.on_ca;
+        long = side_long;
+        inner_is = ap (λ l. held l w.depth w.inner) v.rings_are ∙ ap₂ (held rs) v.depth_is v.inner_is;
         few = few;
         goes =
             subst (λ (l : List Ring). Fits l w.depth n w.inner) (sym v.rings_are)
-            (subst (λ (d : ℕ). Fits rs d n w.inner) (sym v.depth_is) (subst (λ (x : TriangleContents). Fits rs 3 n x) (sym v.inner-is) fits));
+            (subst (λ (d : ℕ). Fits rs d n w.inner) (sym v.depth_is) (subst (λ (x : TriangleContents). Fits rs 3 n x) (sym v.inner_is) fits));
       }
 
 -- the same of equal lists

@@ -37,12 +37,12 @@ pub record Viewable (ts : List Triangle) (fs : List Forward) (es : List Edge) (c
 
 -- w reads triangle i of the lists
 pub record Views (ts : List Triangle) (fs : List Forward) (es : List Edge) (cs : List TriangleContents) (rs : List Ring) (i : ℕ) (w : RingView) : Type 0 where
-  pub a-is : w.a ≡ (triangle_at ts i).a
-  pub b-is : w.b ≡ (triangle_at ts i).b
-  pub c-is : w.c ≡ (triangle_at ts i).c
+  pub a_is : w.a ≡ (triangle_at ts i).a
+  pub b_is : w.b ≡ (triangle_at ts i).b
+  pub c_is : w.c ≡ (triangle_at ts i).c
   pub on_ab : Reads (edge_vertices (edge_in es (triangle_at ts i).ab)) (forward_at fs i).ab w.ab
   pub on_bc : Reads (edge_vertices (edge_in es (triangle_at ts i).bc)) (forward_at fs i).bc w.bc
   pub on_ca : Reads (edge_vertices (edge_in es (triangle_at ts i).ca)) (forward_at fs i).ca w.ca
-  pub inner-is : w.inner ≡ kind_at cs i
+  pub inner_is : w.inner ≡ kind_at cs i
   pub rings_are : w.rings.now ≡ rs
   pub depth_is : w.depth ≡ 3

@@ -1,5 +1,5 @@
-use Rattle.mesh.proofs.Calls.{accepted-fits}
+use Rattle.mesh.proofs.Calls.{accepted_fits}
 use Rattle.mesh.proofs.calls_stand.Goals as goal
 
 pub returns : goal.returns
-returns c = accepted-fits
+returns c = accepted_fits

@@ -1,5 +1,5 @@
-use Rattle.mesh.proofs.Amounts.{faces-counted}
+use Rattle.mesh.proofs.Amounts.{faces_counted}
 use Rattle.mesh.proofs.faces_stand.Goals as goal
 
 pub returns : goal.returns
-returns c = faces-counted
+returns c = faces_counted

@@ -1,5 +1,5 @@
-use Rattle.mesh.proofs.Below.{numbers-below}
+use Rattle.mesh.proofs.Below.{numbers_below}
 use Rattle.mesh.proofs.numbers_stand.Goals as goal
 
 pub returns : goal.returns
-returns c = numbers-below
+returns c = numbers_below

@@ -1,5 +1,5 @@
-use Rattle.mesh.proofs.OneMaking.{one-making}
+use Rattle.mesh.proofs.OneMaking.{one_making}
 use Rattle.mesh.proofs.one_making_stands.Goals as goal
 
 pub returns : goal.returns
-returns c = one-making
+returns c = one_making

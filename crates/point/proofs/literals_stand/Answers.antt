@@ -6,10 +6,10 @@ pub returns : goal.returns
 unfolding of_bits of_fields odd neg
 returns c =
     record {
-      nought-is = refl;
+      nought_is = refl;
       half_is = refl;
       half_root_is = refl;
-      one-is = refl;
+      one_is = refl;
       minus_half_is = refl;
       minus_half_root_is = refl;
       minus_one_is = refl;

@@ -6,7 +6,7 @@ use Rattle.rings.specs.Held.{Fits, held_view}
 use Rattle.rings.specs.Slices.{read}
 use Rattle.calculating.specs.Rules.{wrote}
 use Rattle.calculating.specs.ViewWrites.{Below}
-use Rattle.calculating.proofs.InnerRing.{more-writes, ring_ready, deep}
+use Rattle.calculating.proofs.InnerRing.{more_writes, ring_ready, deep}
 use Rattle.calculating.proofs.contents.+put_contents.Goals as goal
 
 pub put_edges-requires : goal.put_edges-requires
@@ -46,6 +46,6 @@ returns-in-More g t c =
     let w = c.ring_view-inner.result in
     let tips : c.put_tips-in-More.new.points ≡ wrote between half (tip_writes m ab bc ca w.a w.b w.c) c.args.points.now
     = c.put_tips-in-More.ensures ∙ ap (λ k. wrote between half (tip_writes k ab bc ca w.a w.b w.c) c.args.points.now) c.len-m.ensures in
-    more-writes between half rs d i m ab bc ca w (deep rs d m i f) c.ring_view-inner.ensures f c.args.points.now
+    more_writes between half rs d i m ab bc ca w (deep rs d m i f) c.ring_view-inner.ensures f c.args.points.now
     c.put_tips-in-More.new.points c.put_edges.new.points c.put_contents.new.points tips c.put_edges.ensures c.put_contents.ensures
     ∙ sym (ap (λ x. wrote between half (contents_writes m ab bc ca (held_view rs d x)) c.args.points.now) c.in-More.is)

@@ -3,7 +3,7 @@ use Rattle.rings.specs.declared.contents.TriangleContents.{TriangleContents}
 use Rattle.rings.specs.declared.contents.TriangleContents.TheVariants as kind
 use Rattle.rings.specs.Held.{ring_at}
 use Rattle.growing.specs.Stepping.{Steps}
-use Rattle.growing.proofs.RingSteps.{six_moves, more_ready, some-deep, more_moves}
+use Rattle.growing.proofs.RingSteps.{six_moves, more_ready, some_deep, more_moves}
 use Rattle.growing.proofs.step.+step_step_ring.Goals as goal
 
 pub step-returns-in-Six : goal.step-returns-in-Six
@@ -24,7 +24,7 @@ step_ring-step-after-requires t c =
     let d = c.args.depth in
     let h = c.args.next in
     let m = c.requires.0 in
-    let some : 1 ≤ d = some-deep rs i d m h c.requires.1 in
+    let some : 1 ≤ d = some_deep rs i d m h c.requires.1 in
     (search rules, ((ring_at rs i).len, more_ready rs i d m h c.longer_ring-ring.result c.longer_ring-ring.ensures c.requires.1))
 
 pub step_ring-returns : goal.step_ring-returns

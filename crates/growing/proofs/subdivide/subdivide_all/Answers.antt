@@ -12,14 +12,14 @@ step_all-requires c =
     let n = c.args.n in
     let a = c.args.amount in
     let twelve : a ≤ 12 = omega arith in
-    let few : a * length c.args.edges.now ≤ 12 * 96 = mul-le-mul twelve c.requires.limits.few-edges in
+    let few : a * length c.args.edges.now ≤ 12 * 96 = mul-le-mul twelve c.requires.limits.few_edges in
     record {
       ready = (
         from n,
         subst (λ (k : ℕ). ReadyAll c.args.rings.now (from n) k c.args.contents.now) (sym c.steps_for.ensures)
             (ready_from c.args.rings.now n a c.args.contents.now c.requires.count c.requires.stands.contents),
       );
-      few = (c.requires.limits.few-triangles, omega (arith, c.lengthen_all-next.ensures.next, c.requires.limits.few-vertices));
+      few = (c.requires.limits.few_triangles, omega (arith, c.lengthen_all-next.ensures.next, c.requires.limits.few_vertices));
     }
 
 pub returns : goal.returns

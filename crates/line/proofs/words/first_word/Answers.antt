@@ -2,7 +2,7 @@ use Rattle.std.proofs.Common.{◌≡◌, take, drop, IsUtf8, sym, ap, ◌∙◌,
 use Rattle.std.specs.Str.{IsCharBoundary}
 use Rattle.std.specs.List.{prefix_len}
 use Rattle.line.specs.Words.{blank, letter}
-use Rattle.line.proofs.Cuts.{boundary_blanks, boundary_letters, no_word, one_word, same-words}
+use Rattle.line.proofs.Cuts.{boundary_blanks, boundary_letters, no_word, one_word, same_words}
 use Rattle.line.proofs.words.first_word.Goals as goal
 use Rattle.line.proofs.words.first_word.Goals.{After-letters}
 
@@ -32,7 +32,7 @@ returns-then-is_empty c =
 pub returns : goal.returns
 returns c =
     let d = (goal.at.returns c).After-letters in
-    same-words c.args.line.now c.split_at.result.1.now (start d)
+    same_words c.args.line.now c.split_at.result.1.now (start d)
     ∙ one_word c.split_at.result.1.now c.split_at-2.result.0.now c.split_at-2.result.1.now (c.split_at-2.ensures.front ∙ ap (λ n. take n c.split_at.result.1.now) (stop d))
     (c.split_at-2.ensures.back ∙ ap (λ n. drop n c.split_at.result.1.now) (stop d))
     (omega (arith, false-eqb _ 0 (sym c.if-is_empty.false ∙ c.is_empty.ensures)))

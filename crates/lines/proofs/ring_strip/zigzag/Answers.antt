@@ -5,9 +5,9 @@ use Rattle.lines.specs.Gathered.{Adds, gathered}
 use Rattle.lines.proofs.Gathering.{onward, at_end, then, renamed}
 use Rattle.lines.proofs.ring_strip.zigzag.Goals as goal
 
-first-down : (k : ℕ) (f : ℕ → List ℕ) → 0 < k → f k ++ down (k - 1) f ≡ down k f
-first-down zero f h = absurd (omega arith)
-first-down (suc k) f h = let e : suc k - 1 ≡ k = omega arith in ap (λ n. f (suc k) ++ down n f) e
+first_down : (k : ℕ) (f : ℕ → List ℕ) → 0 < k → f k ++ down (k - 1) f ≡ down k f
+first_down zero f h = absurd (omega arith)
+first_down (suc k) f h = let e : suc k - 1 ≡ k = omega arith in ap (λ n. f (suc k) ++ down n f) e
 
 pub loop-i-preserved : goal.loop-i-preserved
 loop-i-preserved c =
@@ -20,7 +20,7 @@ loop-i-preserved c =
     let k : i - 1 + 1 ≡ i = omega arith in (
       onward g (gathered c.push-in-loop-i.new.self) (F i) (down (i - 1) F) (gathered c.args.strip.now ++ down c.args.last F)
           (two.are ∙ ap₂ (λ x y. g ++ (x ∷ y ∷ [])) (c.edge.ensures ∙ ap u k) c.inner.ensures)
-          (ap (λ l. g ++ l) (first-down i F (omega arith)) ∙ c.loop-i.invariant.0),
+          (ap (λ l. g ++ l) (first_down i F (omega arith)) ∙ c.loop-i.invariant.0),
       omega (arith, two.long, c.loop-i.invariant.1),
     )
 

@@ -4,7 +4,7 @@ use Rattle.rings.specs.declared.ring_view.RingView.{RingView}
 use Rattle.rings.specs.Slices.{read}
 use Rattle.lines.specs.ViewStrips.{own_strip}
 use Rattle.lines.proofs.Drawing.{first_taken, rest_taken, none_drawn, same_drawn, draws_on}
-use Rattle.lines.proofs.Inward.{strips_inside, turn, six-inside, nothing-inside}
+use Rattle.lines.proofs.Inward.{strips_inside, turn, six_inside, nothing_inside}
 use Rattle.lines.proofs.triangle.write_triangle.Goals as goal
 
 -- the strip of a view's own ring, and those of what lies inside it, at most d rings deep
@@ -63,7 +63,7 @@ returns-in-Six g c =
     let o = c.args.offset in
     let l = c.loop-inner in
     let x = c.in-Six in
-    let e = six-inside v.rings.now l.depth l.inner x.a x.b x.c x.ab x.bc x.ca x.is in
+    let e = six_inside v.rings.now l.depth l.inner x.a x.b x.c x.ab x.bc x.ca x.is in
     draws_on (own o v) (further o v v.depth v) refl c.write_ring.ensures
     (l.invariant.0 c.write_one.new.sink (same_drawn (ap (offset_by o) e) c.write_one.ensures))
 
@@ -72,5 +72,5 @@ returns-in_default-inner g c =
     let v = c.args.view.now in
     let o = c.args.offset in
     let l = c.loop-inner in
-    let e = nothing-inside v.rings.now l.depth l.inner c.in_default.not-More c.in_default-inner.not-Six in
+    let e = nothing_inside v.rings.now l.depth l.inner c.in_default.not-More c.in_default-inner.not-Six in
     draws_on (own o v) (further o v v.depth v) refl c.write_ring.ensures (l.invariant.0 l.sink (same_drawn (ap (offset_by o) e) (none_drawn l.sink)))

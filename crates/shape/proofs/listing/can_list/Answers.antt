@@ -1,6 +1,6 @@
 use Rattle.std.proofs.Common.{◌<◌, ◌≤◌, ◌&&◌, leb, length, get_or, sym, ap, ◌∙◌, arith, le-leb}
 use Rattle.std.proofs.lemmas.List.{drop_all}
-use Rattle.shape.specs.Listing.{all-below}
+use Rattle.shape.specs.Listing.{all_below}
 use Rattle.shape.proofs.Booleans.{and_no}
 use Rattle.shape.proofs.Placing.{below_no, below_more}
 use Rattle.shape.proofs.listing.can_list.Goals as goal
@@ -27,4 +27,4 @@ returns c =
     let i = c.loop-i.i-index in
     let h : length xs ≤ i = omega arith in
     let l : length xs ≤ 3360 = omega arith in
-    sym (rw (le-leb (length xs) 3360 l) (sym c.loop-i.invariant ∙ ap (λ ys. all-below ys c.args.points) (drop_all i xs h)))
+    sym (rw (le-leb (length xs) 3360 l) (sym c.loop-i.invariant ∙ ap (λ ys. all_below ys c.args.points) (drop_all i xs h)))

@@ -2,7 +2,7 @@ use Rattle.std.proofs.Common.{◌≡◌, ℕ, ◌+◌, ◌<◌, false, List, [],
 use Rattle.std.proofs.lemmas.List.{take_more, take_all, get_or-replicate}
 use Rattle.shape.specs.declared.triangle.Triangle.{Triangle}
 use Rattle.table.specs.Forwards.{Marks, forwards, forward_of, triangle_at, no_triangle}
-use Rattle.table.proofs.Readings.{seen_by, seen_more, forwards-more}
+use Rattle.table.proofs.Readings.{seen_by, seen_more, forwards_more}
 use Rattle.table.proofs.forward.forwards_of.Goals as goal
 
 pub loop-t-init : goal.loop-t-init
@@ -19,7 +19,7 @@ loop-t-preserved c =
     let told = c.forward_of.ensures seen c.loop-t.invariant.1 in
     let long : length c.forward_of.new.done ≡ 96 = search rules in
     let edges : seen_by (take (i + 1) ts) ≡ t.ca ∷ t.bc ∷ t.ab ∷ seen = ap seen_by more ∙ seen_more [] (take i ts) t in
-    let list : forwards (take (i + 1) ts) ≡ forwards (take i ts) ++ (forward_of seen t ∷ []) = ap forwards more ∙ forwards-more [] (take i ts) t in
+    let list : forwards (take (i + 1) ts) ≡ forwards (take i ts) ++ (forward_of seen t ∷ []) = ap forwards more ∙ forwards_more [] (take i ts) t in
     let pushed : vec_items c.push.new.self ≡ vec_items c.loop-t.list ++ (c.forward_of.result ∷ []) = search rules in (
       long,
       subst (λ (l : List ℕ). Marks l c.forward_of.new.done) (sym edges) told.1,

@@ -6,7 +6,7 @@ use Rattle.rings.specs.declared.contents.Ring.{Ring}
 use Rattle.rings.specs.declared.contents.TriangleContents.{TriangleContents}
 use Rattle.std.specs.Vec.{with_items}
 use Rattle.std.proofs.lemmas.List.{with_items_is}
-use Rattle.table.proofs.Growing.{stands, limits, sound_grown, numbering-same, stands_same}
+use Rattle.table.proofs.Growing.{stands, limits, sound_grown, numbering_same, stands_same}
 use Rattle.table.proofs.grow.grow.Goals as goal
 
 -- the numbering by the table's own lists
@@ -15,7 +15,7 @@ renamed :
     → rs₀ ≡ rs → new ≡ ws → new₁ ≡ vs → new₂ ≡ us → numbering (n + a) r ws vs us ≡ grown a (numbering n total es₀ cs₀ rs₀)
     → numbering (n + a) r new new₁ new₂ ≡ grown a (numbering n total es cs rs)
 renamed n a total r es es₀ ws new cs cs₀ vs new₁ rs rs₀ us new₂ p q u x y z h =
-    numbering-same (n + a) r new ws new₁ vs new₂ us x y z ∙ h ∙ ap (grown a) (numbering-same n total es₀ es cs₀ cs rs₀ rs p q u)
+    numbering_same (n + a) r new ws new₁ vs new₂ us x y z ∙ h ∙ ap (grown a) (numbering_same n total es₀ es cs₀ cs rs₀ rs p q u)
 
 pub subdivide_all-total-requires : goal.subdivide_all-total-requires
 subdivide_all-total-requires c =

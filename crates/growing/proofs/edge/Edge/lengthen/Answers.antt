@@ -1,7 +1,7 @@
 use Rattle.std.proofs.Common.{◌≡◌, ◌+◌, ◌<◌, ◌++◌, length, take, sym, refl, ap, ◌∙◌, arith, length-set}
 use Rattle.pattern.specs.Step.{range}
 use Rattle.growing.specs.Edges.{edge_vertices}
-use Rattle.growing.proofs.Lengthening.{written-more}
+use Rattle.growing.proofs.Lengthening.{written_more}
 use Rattle.growing.proofs.edge.Edge.lengthen.Goals as goal
 
 pub loop-k-preserved : goal.loop-k-preserved
@@ -11,7 +11,7 @@ loop-k-preserved c =
     let long : length ps ≡ 12 = c.loop-k.invariant.2 in
     let room : n + c.loop-k.k < length ps = omega arith in (
       c.loop-k.invariant.0,
-      written-more ps (edge_vertices c.args.self.now) n c.args.next c.loop-k.k room c.loop-k.invariant.1,
+      written_more ps (edge_vertices c.args.self.now) n c.args.next c.loop-k.k room c.loop-k.invariant.1,
       length-set ps (n + c.loop-k.k) (c.args.next + c.loop-k.k) ∙ long,
     )
 
