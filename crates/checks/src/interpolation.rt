@@ -145,8 +145,8 @@ fn along<S: BaseShape>(
     let b = Vec3A::new(0.3, 7.75, -1.0e6);
     let mut buffer = [Vec3A::from_bits(NINE, NINE, NINE); 6];
     base.interpolate_multiple(a, b, list, &mut buffer)?;
-    for i in 0..6 {
-        assert_eq!(rt; bits(buffer[i]), want[i]);
+    for (point, expected) in buffer.iter().zip(want) {
+        assert_eq!(rt; bits(*point), *expected);
     }
     Ok(())
 }

@@ -45,9 +45,9 @@ fn verdict(points: usize, edges: usize, triangles: &[Triangle]) -> (u8, usize) {
 // The first `count` of 33 triangles that share nothing.
 fn separate(count: usize, points: usize, edges: usize) -> (u8, usize) {
     let mut all = [tri(0, 0, 0, 0, 0, 0); 33];
-    for i in 0..33u32 {
-        let e = i as usize * 3;
-        all[i as usize] = tri(3 * i, 3 * i + 1, 3 * i + 2, e, e + 1, e + 2);
+    for (i, triangle) in all.iter_mut().enumerate() {
+        let (a, ab) = (3 * i as u32, 3 * i);
+        *triangle = tri(a, a + 1, a + 2, ab, ab + 1, ab + 2);
     }
     verdict(points, edges, &all[0..count.min(33)])
 }

@@ -1,5 +1,5 @@
 -- Strips that a sink takes, written one after another.
-use Rattle.std.proofs.Common.{◌≡◌, ℕ, ◌+◌, ◌<◌, cond, T, List, [], ◌∷◌, ◌++◌, map, length, Some, None, Ok, Err, Result, sym, refl, ap, ◌∙◌, subst, arith, length-append, lt-ltb}
+use Rattle.std.proofs.Common.{false, leb, ◌≡◌, ℕ, ◌+◌, ◌<◌, cond, T, List, [], ◌∷◌, ◌++◌, map, length, Some, None, Ok, Err, Result, sym, refl, ap, ◌∙◌, subst, arith, length-append}
 use base.Fml.{GName}
 use lib.ListN.{length-map}
 use Rattle.refusal.specs.declared.Refusal.{Refusal}
@@ -42,7 +42,9 @@ rest_taken s u ks ms e t w =
 numbers_fit : (offset : ℕ) (xs : List ℕ) → Each (λ x. x < 4294967295) (map (λ x. x + offset) xs) → first_too_large offset xs ≡ None
 numbers_fit offset [] h = refl
 numbers_fit offset (x ∷ xs) h =
-    ap (λ b. cond b (first_too_large offset xs) (Some (x + offset))) (lt-ltb (x + offset) 4294967295 h.0) ∙ numbers_fit offset xs h.1
+    let k : x + offset < 4294967295 = h.0 in
+    let n : leb 4294967295 (x + offset) ≡ false = grind arith in
+    ap (λ b. cond b (Some (x + offset)) (first_too_large offset xs)) n ∙ numbers_fit offset xs h.1
 
 strip_accepted : (s : Sink) (offset : ℕ) (xs : List ℕ) → TakenBy s (offset_by offset (xs ∷ [])) → strip_answer s xs offset ≡ Ok tt
 strip_accepted s offset xs h =

@@ -35,6 +35,34 @@ impl Vec3A {
         }
     }
 
+    // `f` of each component.
+    fn map<F: Fn(f32) -> f32>(self, f: F) -> Vec3A
+        requires { F.IsAlwaysCallable f }
+        ensures x { F.post f self.x result.x }
+        ensures y { F.post f self.y result.y }
+        ensures z { F.post f self.z result.z }
+    {
+        Vec3A {
+            x: f(self.x),
+            y: f(self.y),
+            z: f(self.z),
+        }
+    }
+
+    // `f` of each two components.
+    fn zip<F: Fn(f32, f32) -> f32>(self, other: Vec3A, f: F) -> Vec3A
+        requires { F.IsAlwaysCallable f }
+        ensures x { F.post f self.x other.x result.x }
+        ensures y { F.post f self.y other.y result.y }
+        ensures z { F.post f self.z other.z result.z }
+    {
+        Vec3A {
+            x: f(self.x, other.x),
+            y: f(self.y, other.y),
+            z: f(self.z, other.z),
+        }
+    }
+
     // Whether the two are equal by the bits of their components, all NaN alike: -0 is not 0.
     pub fn same_bits(self, other: Vec3A) -> bool
         ensures sound { result ≡ true → self ≡ other }
@@ -58,11 +86,7 @@ impl Add<Vec3A> for Vec3A {
     ghost add_gives = { λ a b r. r ≡ plus a b };
 
     fn add(self, rhs: Vec3A) -> Vec3A {
-        Vec3A {
-            x: self.x + rhs.x,
-            y: self.y + rhs.y,
-            z: self.z + rhs.z,
-        }
+        self.zip(rhs, |a, b| a + b)
     }
 }
 
@@ -73,11 +97,7 @@ impl Mul<Vec3A> for Vec3A {
     ghost mul_gives = { λ a b r. r ≡ times a b };
 
     fn mul(self, rhs: Vec3A) -> Vec3A {
-        Vec3A {
-            x: self.x * rhs.x,
-            y: self.y * rhs.y,
-            z: self.z * rhs.z,
-        }
+        self.zip(rhs, |a, b| a * b)
     }
 }
 
@@ -88,11 +108,7 @@ impl Mul<f32> for Vec3A {
     ghost mul_gives = { λ a k r. r ≡ scaled k a };
 
     fn mul(self, k: f32) -> Vec3A {
-        Vec3A {
-            x: self.x * k,
-            y: self.y * k,
-            z: self.z * k,
-        }
+        self.map(|a| a * k)
     }
 }
 
@@ -108,8 +124,6 @@ impl Mul<Vec3A> for f32 {
 }
 
 // The numbers that the definitions write by their bits.
-pub fn literals_stand() -> u8
+pub fn literals_stand()
     ensures { Literals }
-{
-    0
-}
+{}

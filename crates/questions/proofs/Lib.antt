@@ -1,6 +1,4 @@
-pub mod Every
 pub mod FirstNo
-pub mod FirstLack
 pub mod Tests
 pub mod Stepwise
 pub mod Sides
@@ -10,4 +8,3 @@ pub mod OneWay
 pub mod CornerSets
 pub mod UsedParts
 pub mod Verdicts
-pub mod Copying

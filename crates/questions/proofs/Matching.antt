@@ -1,11 +1,12 @@
 -- Question 6: each edge number joins one pair of corners, and each pair has one edge number.
 use Rattle.std.proofs.Common.{◌≡◌, Bool, true, false, ◌&&◌, T, eqb, ◌⊎◌, List, [], ◌∷◌, ◌++◌, sym, subst, inl, inr, eqb→eq}
+use Rattle.std.specs.List.{list_all}
 use Rattle.shape.specs.declared.triangle.Triangle.{Triangle}
 use Rattle.shape.specs.Lists.{In}
 use Rattle.shape.specs.Sides.{Use, uses, SameEnds}
 use Rattle.shape.specs.Questions.{EdgesMatch}
 use Rattle.questions.specs.declared.question.Question.TheVariants.{EdgesMatch as AsksEdges}
-use Rattle.questions.specs.Tests.{every, same_bool, same_ends, matches, agree, sides_agree, pair, passes}
+use Rattle.questions.specs.Tests.{same_bool, same_ends, matches, agree, sides_agree, pair, passes}
 use Rattle.questions.proofs.Tests.{and_left, and_right, and_in, or_out, or_left, or_right, eq→eqb, every_at, every_in}
 use Rattle.questions.proofs.Sides.{in_left, in_right, in_split, uses-append, owner, owned}
 use Rattle.questions.proofs.Stepwise.{Stepwise}
@@ -88,24 +89,24 @@ from_all ts k = record { one_pair = λ u v i j. (k u v i j).pair_is; one_edge = 
 sides_sound : (s t : Triangle) → T (sides_agree AsksEdges s t) → (u v : Use) → In u (uses (s ∷ [])) → In v (uses (t ∷ [])) → Match u v
 sides_sound s t h u v i j =
     match_sound u v
-    (every_at (agree AsksEdges u) (uses (t ∷ [])) (every_at (λ w. every (agree AsksEdges w) (uses (t ∷ []))) (uses (s ∷ [])) h u i) v j)
+    (every_at (agree AsksEdges u) (uses (t ∷ [])) (every_at (λ w. list_all (agree AsksEdges w) (uses (t ∷ []))) (uses (s ∷ [])) h u i) v j)
 
 sides_complete : (s t : Triangle) → ((u v : Use) → In u (uses (s ∷ [])) → In v (uses (t ∷ [])) → Match u v) → T (sides_agree AsksEdges s t)
 sides_complete s t k =
-    every_in (λ w. every (agree AsksEdges w) (uses (t ∷ []))) (uses (s ∷ []))
+    every_in (λ w. list_all (agree AsksEdges w) (uses (t ∷ []))) (uses (s ∷ []))
     (λ u i. every_in (agree AsksEdges u) (uses (t ∷ [])) (λ v j. match_complete u v (k u v i j)))
 
 adds : (l : List Triangle) (x : Triangle) → AllMatch (uses l) → T (passes AsksEdges l x) → AllMatch (uses l ++ uses (x ∷ []))
 adds l x k t u v i j = go (in_split u (uses l) (uses (x ∷ [])) i) (in_split v (uses l) (uses (x ∷ [])) j)
   where
     own : T (sides_agree AsksEdges x x)
-    own = and_left (sides_agree AsksEdges x x) (every (λ s. pair AsksEdges s x) l) t
+    own = and_left (sides_agree AsksEdges x x) (list_all (λ s. pair AsksEdges s x) l) t
 
     across : (w z : Use) → In w (uses l) → In z (uses (x ∷ [])) → Match w z
     across w z a b =
         let o = owner w l a in
         sides_sound o.s x
-        (every_at (λ s. pair AsksEdges s x) l (and_right (sides_agree AsksEdges x x) (every (λ s. pair AsksEdges s x) l) t) o.s o.there) w z o.side b
+        (every_at (λ s. pair AsksEdges s x) l (and_right (sides_agree AsksEdges x x) (list_all (λ s. pair AsksEdges s x) l) t) o.s o.there) w z o.side b
 
     go : In u (uses l) ⊎ In u (uses (x ∷ [])) → In v (uses l) ⊎ In v (uses (x ∷ [])) → Match u v
     go (inl a) (inl b) = k u v a b
@@ -115,7 +116,7 @@ adds l x k t u v i j = go (in_split u (uses l) (uses (x ∷ [])) i) (in_split v 
 
 needs : (l : List Triangle) (x : Triangle) → AllMatch (uses l ++ uses (x ∷ [])) → T (passes AsksEdges l x)
 needs l x k =
-    and_in (sides_agree AsksEdges x x) (every (λ s. pair AsksEdges s x) l)
+    and_in (sides_agree AsksEdges x x) (list_all (λ s. pair AsksEdges s x) l)
     (sides_complete x x (λ u v i j. k u v (in_right u (uses l) (uses (x ∷ [])) i) (in_right v (uses l) (uses (x ∷ [])) j)))
     (every_in (λ s. pair AsksEdges s x) l
     (λ s there. sides_complete s x

@@ -1,12 +1,13 @@
 -- Question 7: each edge is used at most once in each direction.
 use Rattle.std.proofs.Common.{◌≡◌, ℕ, ◌+◌, ◌≤◌, Bool, true, false, ◌&&◌, T, eqb, List, [], ◌∷◌, ◌++◌, sym, refl, ◌∙◌, subst, arith, eqb→eq, T_not}
+use Rattle.std.specs.List.{list_all}
 use native.Mathlib.Decide.{dec_le}
 use lib.Dec.{not_T}
 use Rattle.shape.specs.declared.triangle.Triangle.{Triangle}
 use Rattle.shape.specs.Sides.{Use, walk, uses, both, tick, way_count}
 use Rattle.shape.specs.Questions.{OneWayEach, ThreeCorners}
 use Rattle.questions.specs.declared.question.Question.TheVariants.{OneWayEach as AsksWays}
-use Rattle.questions.specs.Tests.{every, same_way, agree, pair, passes}
+use Rattle.questions.specs.Tests.{same_way, agree, pair, passes}
 use Rattle.questions.proofs.Tests.{and_left, and_right, and_in, eq→eqb, every_at, every_in}
 use Rattle.questions.proofs.Sides.{uses-append, owner, owned, way_append, Walks, walks_out, walked, way_counted}
 use Rattle.questions.proofs.Stepwise.{Stepwise}
@@ -71,7 +72,7 @@ adds l x c k t e p q = go (dec_le 1 (way_count e p q (uses l))) (dec_le 1 (way_c
         let o = owner u.u l u.there in
         T_not (same_way u.u v.u)
         (every_at (agree AsksWays u.u) (uses (x ∷ []))
-        (every_at (λ w. every (agree AsksWays w) (uses (x ∷ []))) (uses (o.s ∷ [])) (every_at (λ s. pair AsksWays s x) l t o.s o.there) u.u o.side) v.u v.there)
+        (every_at (λ w. list_all (agree AsksWays w) (uses (x ∷ []))) (uses (o.s ∷ [])) (every_at (λ s. pair AsksWays s x) l t o.s o.there) u.u o.side) v.u v.there)
         (same_way_lem u.u v.u (sym u.walks.edge_is ∙ v.walks.edge_is) (sym u.walks.start_is ∙ v.walks.start_is) (sym u.walks.stop_is ∙ v.walks.stop_is))
 
     go : Dec (1 ≤ way_count e p q (uses l)) → Dec (1 ≤ way_count e p q (uses (x ∷ []))) → way_count e p q (uses l ++ uses (x ∷ [])) ≤ 1
@@ -82,7 +83,7 @@ adds l x c k t e p q = go (dec_le 1 (way_count e p q (uses l))) (dec_le 1 (way_c
 needs : (l : List Triangle) (x : Triangle) → ((e p q : ℕ) → way_count e p q (uses l ++ uses (x ∷ [])) ≤ 1) → T (passes AsksWays l x)
 needs l x k =
     every_in (λ s. pair AsksWays s x) l
-    (λ s there. every_in (λ w. every (agree AsksWays w) (uses (x ∷ []))) (uses (s ∷ []))
+    (λ s there. every_in (λ w. list_all (agree AsksWays w) (uses (x ∷ []))) (uses (s ∷ []))
     (λ u i. every_in (agree AsksWays u) (uses (x ∷ []))
     (λ v j. not_T (same_way u v)
     (λ t. let e = u.edge in

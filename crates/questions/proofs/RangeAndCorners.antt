@@ -1,19 +1,20 @@
 -- The questions 4 and 5, which each triangle answers alone.
 use Rattle.std.proofs.Common.{ℕ, Bool, true, not, ◌&&◌, eqb, ltb, [], ◌∷◌, ltb→lt, lt→ltb}
+use Rattle.std.specs.List.{list_all}
 use Rattle.shape.specs.declared.triangle.Triangle.{Triangle}
 use Rattle.shape.specs.Lists.{Each}
 use Rattle.shape.specs.Questions.{Below, ThreeCorners, InRange, DifferentCorners}
 use Rattle.questions.specs.declared.question.Question.TheVariants.{InRange as AsksRange, DifferentCorners as AsksCorners}
-use Rattle.questions.specs.Tests.{every, below, three, passes}
+use Rattle.questions.specs.Tests.{below, three, passes}
 use Rattle.questions.proofs.Tests.{and_left, and_right, and_in, apart, unequal, every_in, Decides}
 use Rattle.questions.proofs.Stepwise.{Stepwise, each_left, each_right, each_join}
 
-alone_stepwise : (R : Triangle → Type 0) (f : Triangle → Bool) → Decides f R → Stepwise (Each R) (λ _. Unit {0}) (λ l x. f x && every (λ _. true) l)
+alone_stepwise : (R : Triangle → Type 0) (f : Triangle → Bool) → Decides f R → Stepwise (Each R) (λ _. Unit {0}) (λ l x. f x && list_all (λ _. true) l)
 alone_stepwise R f d =
     record {
       start = tt;
-      adds = λ l x _ _ k t. each_join R l (x ∷ []) k (d.sound x (and_left (f x) (every (λ _. true) l) t), tt);
-      needs = λ l x _ _ k. and_in (f x) (every (λ _. true) l) (d.complete x (each_right R l (x ∷ []) k).0) (every_in (λ _. true) l (λ y i. tt));
+      adds = λ l x _ _ k t. each_join R l (x ∷ []) k (d.sound x (and_left (f x) (list_all (λ _. true) l) t), tt);
+      needs = λ l x _ _ k. and_in (f x) (list_all (λ _. true) l) (d.complete x (each_right R l (x ∷ []) k).0) (every_in (λ _. true) l (λ y i. tt));
       keeps = λ l x k. each_left R l (x ∷ []) k;
     }
 

@@ -1,8 +1,8 @@
 -- Tests that compute, and what it means that one passes.
 use Rattle.std.proofs.Common.{◌≡◌, ℕ, Bool, true, false, not, ◌&&◌, ◌||◌, T, eqb, ◌⊎◌, List, [], ◌∷◌, sym, refl, subst, inl, inr, eqb→eq, T_not}
+use Rattle.std.specs.List.{list_all}
 use lib.Dec.{eqb_refl, not_T}
 use Rattle.shape.specs.Lists.{In}
-use Rattle.questions.specs.Tests.{every}
 
 pub and_left : (a b : Bool) → T (a && b) → T a
 and_left true b t = tt
@@ -46,14 +46,14 @@ pub unequal : (x y : ℕ) → (x ≡ y → ⊥) → T (not (eqb x y))
 unequal x y f = not_T (eqb x y) (λ t. f (eqb→eq x y t))
 
 module _ {X : Type 0} (f : X → Bool) where
-  pub every_at : (l : List X) → T (every f l) → (x : X) → In x l → T (f x)
+  pub every_at : (l : List X) → T (list_all f l) → (x : X) → In x l → T (f x)
   every_at [] t x i = absurd i
-  every_at (y ∷ l) t x (inl e) = subst (λ z. T (f z)) (sym e) (and_left (f y) (every f l) t)
-  every_at (y ∷ l) t x (inr i) = every_at l (and_right (f y) (every f l) t) x i
+  every_at (y ∷ l) t x (inl e) = subst (λ z. T (f z)) (sym e) (and_left (f y) (list_all f l) t)
+  every_at (y ∷ l) t x (inr i) = every_at l (and_right (f y) (list_all f l) t) x i
 
-  pub every_in : (l : List X) → ((x : X) → In x l → T (f x)) → T (every f l)
+  pub every_in : (l : List X) → ((x : X) → In x l → T (f x)) → T (list_all f l)
   every_in [] h = tt
-  every_in (x ∷ l) h = and_in (f x) (every f l) (h x (inl refl)) (every_in l (λ y i. h y (inr i)))
+  every_in (x ∷ l) h = and_in (f x) (list_all f l) (h x (inl refl)) (every_in l (λ y i. h y (inr i)))
 
 -- a test that passes exactly where P holds
 pub record Decides {X : Type 0} (f : X → Bool) (P : X → Type 0) : Type 0 where

@@ -1,11 +1,13 @@
 -- Question 9: every edge is used, and every point is a corner; else the first that is not.
-use Rattle.std.proofs.Common.{◌≡◌, ℕ, zero, suc, ◌+◌, ◌<◌, ◌≤◌, Bool, true, false, cond, ◌||◌, T, eqb, ◌⊎◌, List, [], ◌∷◌, Some, None, Option, sym, refl, ap, subst, inl, inr, zero-add, arith, eqb→eq}
+use Rattle.std.proofs.Common.{◌≡◌, not, ℕ, zero, suc, ◌+◌, ◌<◌, ◌≤◌, Bool, true, false, cond, ◌||◌, T, eqb, ◌⊎◌, List, [], ◌∷◌, Some, None, Option, sym, refl, ap, subst, inl, inr, zero-add, arith, eqb→eq}
+use borrow.Author.Count.{below_more}
+use Rattle.std.specs.List.{list_any, find, range_with_len}
 use Rattle.shape.specs.declared.triangle.Triangle.{Triangle}
 use Rattle.shape.specs.Lists.{In}
 use Rattle.shape.specs.Sides.{uses, corners, use_count, tick}
 use Rattle.shape.specs.Verdict.{FirstLacking, EdgeUsed, PointUsed}
 use Rattle.questions.specs.declared.used.Part.TheVariants.{Edge, Point}
-use Rattle.questions.specs.Tests.{some, touches, is_used, first_lack_from, first_lack}
+use Rattle.questions.specs.Tests.{touches, is_used, first_lack}
 use Rattle.questions.proofs.Tests.{or_out, or_left, or_right, eq→eqb, Decides}
 use Rattle.questions.proofs.Sides.{tick_yes}
 use Rattle.questions.proofs.Stepwise.{order}
@@ -15,25 +17,17 @@ Lacking count P None = (n : ℕ) → n < count → P n
 Lacking count P (Some n) = FirstLacking count P n
 
 module _ {f : ℕ → Bool} {P : ℕ → Type 0} (d : Decides f P) where
-  below_more : (i : ℕ) → ((m : ℕ) → m < i → P m) → P i → (m : ℕ) → m < suc i → P m
-  below_more i b p m h = go (order m i)
-    where
-      go : (m < i) ⊎ ((m ≡ i) ⊎ (i < m)) → P m
-      go (inl k) = b m k
-      go (inr (inl e)) = subst P (sym e) p
-      go (inr (inr k)) = absurd (let z : ⊥ = omega arith in z)
-
-  lack_from : (i k : ℕ) → ((m : ℕ) → m < i → P m) → Lacking (i + k) P (first_lack_from f i k)
+  lack_from : (i k : ℕ) → ((m : ℕ) → m < i → P m) → Lacking (i + k) P (find (λ j. not (f j)) (range_with_len i k))
   lack_from i zero b = λ n h. b n (omega arith)
-  lack_from i (suc k) b = go (f i) refl (lack_from (suc i) k)
+  lack_from i (suc k) b = go (f i) refl (lack_from (i + 1) k)
     where
-      e : suc i + k ≡ i + suc k
+      e : i + 1 + k ≡ i + suc k
       e = omega arith
 
       go :
-          (c : Bool) → f i ≡ c → (((m : ℕ) → m < suc i → P m) → Lacking (suc i + k) P (first_lack_from f (suc i) k))
-          → Lacking (i + suc k) P (cond c (first_lack_from f (suc i) k) (Some i))
-      go true p rest = subst (λ (n : ℕ). Lacking n P (first_lack_from f (suc i) k)) e (rest (below_more i b (d.sound i (subst T (sym p) tt))))
+          (c : Bool) → f i ≡ c → (((m : ℕ) → m < i + 1 → P m) → Lacking (i + 1 + k) P (find (λ j. not (f j)) (range_with_len (i + 1) k)))
+          → Lacking (i + suc k) P (cond (not c) (Some i) (find (λ j. not (f j)) (range_with_len (i + 1) k)))
+      go true p rest = subst (λ (n : ℕ). Lacking n P (find (λ j. not (f j)) (range_with_len (i + 1) k))) e (rest (below_more P i b (d.sound i (subst T (sym p) tt))))
       go false p rest = record { there = omega arith; lacks = λ y. subst T p (d.complete i y); not_before = b }
 
   pub first_lack_lem : (count : ℕ) → Lacking count P (first_lack f count)
@@ -62,7 +56,7 @@ tick_more false n h = h
 
 edge_sound : (ts : List Triangle) (e : ℕ) → T (is_used Edge ts e) → 1 ≤ use_count e (uses ts)
 edge_sound [] e t = absurd t
-edge_sound (x ∷ ts) e t = go (or_out (touches Edge e x) (some (touches Edge e) ts) t) (edge_sound ts e)
+edge_sound (x ∷ ts) e t = go (or_out (touches Edge e x) (list_any (touches Edge e) ts) t) (edge_sound ts e)
   where
     n : ℕ
     n = use_count e (uses ts)
@@ -81,7 +75,7 @@ edge_sound (x ∷ ts) e t = go (or_out (touches Edge e x) (some (touches Edge e)
     own (inl h) = tick_yes (eqb e x.ab) b h
     own (inr h) = last (or_out (eqb e x.bc) (eqb e x.ca) h)
 
-    go : T (touches Edge e x) ⊎ T (some (touches Edge e) ts) → (T (is_used Edge ts e) → 1 ≤ use_count e (uses ts)) → 1 ≤ tick (eqb e x.ab) b
+    go : T (touches Edge e x) ⊎ T (list_any (touches Edge e) ts) → (T (is_used Edge ts e) → 1 ≤ use_count e (uses ts)) → 1 ≤ tick (eqb e x.ab) b
     go (inl h) r = own (or_out (eqb e x.ab) (eqb e x.bc || eqb e x.ca) h)
     go (inr h) r = tick_more (eqb e x.ab) b (tick_more (eqb e x.bc) c (tick_more (eqb e x.ca) n (r h)))
 
@@ -98,28 +92,28 @@ edge_complete (x ∷ ts) e h = ab (tick_or (eqb e x.ab) b h) (edge_complete ts e
     b : ℕ
     b = tick (eqb e x.bc) c
 
-    own : T (touches Edge e x) → T (touches Edge e x || some (touches Edge e) ts)
-    own t = or_left (touches Edge e x) (some (touches Edge e) ts) t
+    own : T (touches Edge e x) → T (touches Edge e x || list_any (touches Edge e) ts)
+    own t = or_left (touches Edge e x) (list_any (touches Edge e) ts) t
 
     Rest : Type 0
     Rest = 1 ≤ n → T (is_used Edge ts e)
 
-    ca : T (eqb e x.ca) ⊎ (1 ≤ n) → Rest → T (touches Edge e x || some (touches Edge e) ts)
+    ca : T (eqb e x.ca) ⊎ (1 ≤ n) → Rest → T (touches Edge e x || list_any (touches Edge e) ts)
     ca (inl t) r = own (or_right (eqb e x.ab) (eqb e x.bc || eqb e x.ca) (or_right (eqb e x.bc) (eqb e x.ca) t))
-    ca (inr k) r = or_right (touches Edge e x) (some (touches Edge e) ts) (r k)
+    ca (inr k) r = or_right (touches Edge e x) (list_any (touches Edge e) ts) (r k)
 
-    bc : T (eqb e x.bc) ⊎ (1 ≤ c) → Rest → T (touches Edge e x || some (touches Edge e) ts)
+    bc : T (eqb e x.bc) ⊎ (1 ≤ c) → Rest → T (touches Edge e x || list_any (touches Edge e) ts)
     bc (inl t) r = own (or_right (eqb e x.ab) (eqb e x.bc || eqb e x.ca) (or_left (eqb e x.bc) (eqb e x.ca) t))
     bc (inr k) r = ca (tick_or (eqb e x.ca) n k) r
 
-    ab : T (eqb e x.ab) ⊎ (1 ≤ b) → Rest → T (touches Edge e x || some (touches Edge e) ts)
+    ab : T (eqb e x.ab) ⊎ (1 ≤ b) → Rest → T (touches Edge e x || list_any (touches Edge e) ts)
     ab (inl t) r = own (or_left (eqb e x.ab) (eqb e x.bc || eqb e x.ca) t)
     ab (inr k) r = bc (tick_or (eqb e x.bc) c k) r
 
 -- ---- a point that is a corner
 point_sound : (ts : List Triangle) (p : ℕ) → T (is_used Point ts p) → In p (corners ts)
 point_sound [] p t = absurd t
-point_sound (x ∷ ts) p t = go (or_out (touches Point p x) (some (touches Point p) ts) t) (point_sound ts p)
+point_sound (x ∷ ts) p t = go (or_out (touches Point p x) (list_any (touches Point p) ts) t) (point_sound ts p)
   where
     last : T (eqb p x.b) ⊎ T (eqb p x.c) → In p (corners (x ∷ ts))
     last (inl h) = inr (inl (eqb→eq p x.b h))
@@ -129,21 +123,21 @@ point_sound (x ∷ ts) p t = go (or_out (touches Point p x) (some (touches Point
     own (inl h) = inl (eqb→eq p x.a h)
     own (inr h) = last (or_out (eqb p x.b) (eqb p x.c) h)
 
-    go : T (touches Point p x) ⊎ T (some (touches Point p) ts) → (T (is_used Point ts p) → In p (corners ts)) → In p (corners (x ∷ ts))
+    go : T (touches Point p x) ⊎ T (list_any (touches Point p) ts) → (T (is_used Point ts p) → In p (corners ts)) → In p (corners (x ∷ ts))
     go (inl h) r = own (or_out (eqb p x.a) (eqb p x.b || eqb p x.c) h)
     go (inr h) r = inr (inr (inr (r h)))
 
 point_complete : (ts : List Triangle) (p : ℕ) → In p (corners ts) → T (is_used Point ts p)
 point_complete [] p i = absurd i
 point_complete (x ∷ ts) p (inl e) =
-    or_left (touches Point p x) (some (touches Point p) ts) (or_left (eqb p x.a) (eqb p x.b || eqb p x.c) (eq→eqb p x.a e))
+    or_left (touches Point p x) (list_any (touches Point p) ts) (or_left (eqb p x.a) (eqb p x.b || eqb p x.c) (eq→eqb p x.a e))
 point_complete (x ∷ ts) p (inr (inl e)) =
-    or_left (touches Point p x) (some (touches Point p) ts)
+    or_left (touches Point p x) (list_any (touches Point p) ts)
     (or_right (eqb p x.a) (eqb p x.b || eqb p x.c) (or_left (eqb p x.b) (eqb p x.c) (eq→eqb p x.b e)))
 point_complete (x ∷ ts) p (inr (inr (inl e))) =
-    or_left (touches Point p x) (some (touches Point p) ts)
+    or_left (touches Point p x) (list_any (touches Point p) ts)
     (or_right (eqb p x.a) (eqb p x.b || eqb p x.c) (or_right (eqb p x.b) (eqb p x.c) (eq→eqb p x.c e)))
-point_complete (x ∷ ts) p (inr (inr (inr i))) = or_right (touches Point p x) (some (touches Point p) ts) (point_complete ts p i)
+point_complete (x ∷ ts) p (inr (inr (inr i))) = or_right (touches Point p x) (list_any (touches Point p) ts) (point_complete ts p i)
 
 pub edges_decide : (P E : ℕ) (ts : List Triangle) → Decides (is_used Edge ts) (EdgeUsed P E ts)
 edges_decide P E ts = record { sound = edge_sound ts; complete = edge_complete ts }

@@ -86,7 +86,7 @@ module _ (P E : ℕ) (ts : List Triangle) where
       lacks E (first_lack (is_used Edge ts) E) (λ e. Unused (UnusedEdge e)) (unless (first_lack (is_used Point ts) P) (λ p. Unused (UnusedPoint p)) (Ok tt))
       (first_lack_lem (edges_decide P E ts) E) (λ e l. (y, l))
       (λ all. lacks P (first_lack (is_used Point ts) P) (λ p. Unused (UnusedPoint p)) (Ok tt) (first_lack_lem (points_decide P E ts) P) (λ p l. (y, (all, l)))
-      (λ every. record {
+      (λ list_all. record {
         triangles = y.0.0.0.0.0.0;
         sizes = y.0.0.0.0.0.1;
         below = y.0.0.0.0.1;
@@ -94,7 +94,7 @@ module _ (P E : ℕ) (ts : List Triangle) where
         matching = y.0.0.1;
         each_way = y.0.1;
         differ = y.1;
-        used = record { edges = all; points = every };
+        used = record { edges = all; points = list_all };
       }))
 
   list_verdict : YesTo3 P E ts → Verdict P E ts (list_answer P E ts)

@@ -4,6 +4,7 @@ use Rattle.refusal.specs.declared.Refusal.{Refusal}
 use Rattle.refusal.specs.declared.Refusal.TheVariants.{TriangleCount, PointOrEdgeCount, OutOfRange, RepeatedCorner, EdgeMismatch, EdgeDirection, RepeatedTriangle, Unused}
 use Rattle.refusal.specs.declared.Unused.TheVariants.{Edge as UnusedEdge, Point as UnusedPoint}
 use Rattle.shape.specs.declared.triangle.Triangle.{Triangle}
+use Rattle.questions.specs.declared.question.Question.{Question}
 use Rattle.questions.specs.declared.question.Question.TheVariants.{InRange, DifferentCorners, EdgesMatch, OneWayEach, DifferentSets}
 use Rattle.questions.specs.declared.used.Part.TheVariants.{Edge, Point}
 use Rattle.questions.specs.Tests.{first_no, is_used, first_lack}
@@ -15,6 +16,18 @@ Answer = Result (Unit {0}) Refusal
 abbrev pub unless : Option ℕ → (ℕ → Refusal) → Answer → Answer
 unless None refusal next = next
 unless (Some i) refusal next = Err (refusal i)
+
+-- what a question refuses with at a triangle
+abbrev pub refusal_of : Question → ℕ → Refusal
+refusal_of (InRange P E) t = OutOfRange t
+refusal_of DifferentCorners t = RepeatedCorner t
+refusal_of EdgesMatch t = EdgeMismatch t
+refusal_of OneWayEach t = EdgeDirection t
+refusal_of DifferentSets t = RepeatedTriangle t
+
+-- what is answered to one question: a refusal at the first triangle at which the answer is no
+abbrev pub asked : Question → List Triangle → Answer
+asked q ts = unless (first_no q ts) (refusal_of q) (Ok tt)
 
 -- the second answer, where the first is no refusal
 abbrev pub and_then : Answer → Answer → Answer

@@ -1,5 +1,6 @@
 -- The questions as tests that compute.
-use Rattle.std.specs.Prelude.{ℕ, zero, suc, Bool, true, false, cond, not, ◌&&◌, ◌||◌, List, [], ◌∷◌, ◌++◌, length, Some, None, Option, ◌==◌, nat_lt}
+use Rattle.std.specs.Prelude.{ℕ, Bool, true, false, cond, not, ◌&&◌, ◌||◌, List, [], ◌∷◌, ◌++◌, length, Some, None, Option, ◌==◌, nat_lt}
+use Rattle.std.specs.List.{list_all, list_any, find, range_with_len}
 use Rattle.shape.specs.declared.triangle.Triangle.{Triangle}
 use Rattle.shape.specs.Sides.{Use, walk, uses}
 use Rattle.questions.specs.declared.side.Side.{Side}
@@ -24,10 +25,6 @@ matches u v = same_bool (u.edge == v.edge) (same_ends u v)
 
 abbrev pub same_way : Use → Use → Bool
 same_way u v = u.edge == v.edge && (u.start == v.start && u.stop == v.stop)
-
-abbrev pub every : {X : Type 0} → (X → Bool) → List X → Bool
-every f [] = true
-every f (x ∷ xs) = f x && every f xs
 
 abbrev pub below : ℕ → ℕ → Triangle → Bool
 below P E t =
@@ -56,7 +53,7 @@ agree DifferentSets u v = true
 
 -- what it asks of each two sides of two triangles
 abbrev pub sides_agree : Question → Triangle → Triangle → Bool
-sides_agree q s t = every (λ u. every (agree q u) (uses (t ∷ []))) (uses (s ∷ []))
+sides_agree q s t = list_all (λ u. list_all (agree q u) (uses (t ∷ []))) (uses (s ∷ []))
 
 -- what it asks of a triangle alone
 abbrev pub alone : Question → Triangle → Bool
@@ -76,7 +73,7 @@ pair DifferentSets s t = not (same_corners s t)
 
 -- whether the answer stays yes when t follows the triangles ts
 abbrev pub passes : Question → List Triangle → Triangle → Bool
-passes q ts t = alone q t && every (λ s. pair q s t) ts
+passes q ts t = alone q t && list_all (λ s. pair q s t) ts
 
 -- the first triangle at which the answer is no, where those of ts passed
 abbrev pub first_no_from : Question → List Triangle → List Triangle → Option ℕ
@@ -86,22 +83,14 @@ first_no_from q ts (x ∷ xs) = cond (passes q ts x) (first_no_from q (ts ++ x �
 abbrev pub first_no : Question → List Triangle → Option ℕ
 first_no q ts = first_no_from q [] ts
 
-abbrev pub some : {X : Type 0} → (X → Bool) → List X → Bool
-some f [] = false
-some f (x ∷ xs) = f x || some f xs
-
 -- whether t has edge number i, or point i as a corner
 abbrev pub touches : Part → ℕ → Triangle → Bool
 touches Edge i t = i == t.ab || (i == t.bc || i == t.ca)
 touches Point i t = i == t.a || (i == t.b || i == t.c)
 
 abbrev pub is_used : Part → List Triangle → ℕ → Bool
-is_used part ts i = some (touches part i) ts
+is_used part ts i = list_any (touches part i) ts
 
--- the first of i, i + 1, .., k of them, at which the test fails
-abbrev pub first_lack_from : (ℕ → Bool) → ℕ → ℕ → Option ℕ
-first_lack_from f i zero = None
-first_lack_from f i (suc k) = cond (f i) (first_lack_from f (suc i) k) (Some i)
-
+-- the first number below the count at which the test fails
 abbrev pub first_lack : (ℕ → Bool) → ℕ → Option ℕ
-first_lack f count = first_lack_from f 0 count
+first_lack f count = find (λ i. not (f i)) (range_with_len 0 count)

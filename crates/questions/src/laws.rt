@@ -2,16 +2,12 @@
 ghost use Rattle.questions.specs.Laws.{EveryBaseHasOneVerdict, Examples};
 
 // Every base has exactly one verdict.
-pub fn one_verdict_stands() -> u8
+pub fn one_verdict_stands()
     ensures { EveryBaseHasOneVerdict }
-{
-    0
-}
+{}
 
 // The triangle, the square and a tetrahedron are accepted; a triangle seen from both sides is
 // refused with 8 at triangle 1, and a turned copy of a triangle with 7 at triangle 1.
-pub fn examples_stand() -> u8
+pub fn examples_stand()
     ensures { Examples }
-{
-    0
-}
+{}

@@ -1,5 +1,5 @@
 // The questions put to a base by its counts and its list of triangles.
-ghost use Rattle.std.specs.Prelude.{◌≡◌, length};
+ghost use Rattle.std.specs.Prelude.{◌≡◌};
 ghost use Rattle.questions.specs.Answer.{counts_answer, triangles_answer, used_answer, list_answer};
 
 use crate::question::Question;
@@ -20,53 +20,53 @@ pub(crate) fn check_counts(points: usize, edges: usize, triangles: usize) -> Res
     Ok(())
 }
 
-// The questions 4 to 8, each put to all triangles before the next.
-pub(crate) fn check_triangles(
-    points: usize,
-    edges: usize,
-    triangles: &[Triangle],
-) -> Result<(), Refusal>
-    ensures { result ≡ triangles_answer points edges triangles.now }
-{
-    if let Some(triangle) = (Question::InRange { points, edges }).first_no(triangles) {
-        return Err(Refusal::OutOfRange { triangle });
-    }
-    if let Some(triangle) = Question::DifferentCorners.first_no(triangles) {
-        return Err(Refusal::RepeatedCorner { triangle });
-    }
-    if let Some(triangle) = Question::EdgesMatch.first_no(triangles) {
-        return Err(Refusal::EdgeMismatch { triangle });
-    }
-    if let Some(triangle) = Question::OneWayEach.first_no(triangles) {
-        return Err(Refusal::EdgeDirection { triangle });
-    }
-    if let Some(triangle) = Question::DifferentSets.first_no(triangles) {
-        return Err(Refusal::RepeatedTriangle { triangle });
-    }
-    Ok(())
+// A base, as the questions 4 to 9 see it: how many points and edges it has, and its triangles.
+#[derive(Clone, Copy)]
+pub(crate) struct Lists<'a> {
+    pub(crate) points: usize,
+    pub(crate) edges: usize,
+    pub(crate) triangles: &'a [Triangle],
 }
 
-// Is every edge used, and every point a corner?
-pub(crate) fn check_used(points: usize, edges: usize, triangles: &[Triangle]) -> Result<(), Refusal>
-    ensures { result ≡ used_answer points edges triangles.now }
-{
-    if let Some(edge) = first_unused(Part::Edge, edges, triangles) {
-        return Err(Refusal::Unused {
-            unused: Unused::Edge(edge),
-        });
+impl<'a> Lists<'a> {
+    // The questions 4 to 8, each put to all triangles before the next.
+    fn check_triangles(&self) -> Result<(), Refusal>
+        ensures { result ≡ triangles_answer self.now.points self.now.edges self.now.triangles.now }
+    {
+        let Lists {
+            points,
+            edges,
+            triangles,
+        } = *self;
+        (Question::InRange { points, edges }).ask(triangles)?;
+        Question::DifferentCorners.ask(triangles)?;
+        Question::EdgesMatch.ask(triangles)?;
+        Question::OneWayEach.ask(triangles)?;
+        Question::DifferentSets.ask(triangles)
     }
-    if let Some(point) = first_unused(Part::Point, points, triangles) {
-        return Err(Refusal::Unused {
-            unused: Unused::Point(point),
-        });
-    }
-    Ok(())
-}
 
-// The questions 4 to 9.
-pub(crate) fn check_list(points: usize, edges: usize, triangles: &[Triangle]) -> Result<(), Refusal>
-    ensures { result ≡ list_answer points edges triangles.now }
-{
-    check_triangles(points, edges, triangles)?;
-    check_used(points, edges, triangles)
+    // Is every edge used, and every point a corner?
+    fn check_used(&self) -> Result<(), Refusal>
+        ensures { result ≡ used_answer self.now.points self.now.edges self.now.triangles.now }
+    {
+        if let Some(edge) = first_unused(Part::Edge, self.edges, self.triangles) {
+            return Err(Refusal::Unused {
+                unused: Unused::Edge(edge),
+            });
+        }
+        if let Some(point) = first_unused(Part::Point, self.points, self.triangles) {
+            return Err(Refusal::Unused {
+                unused: Unused::Point(point),
+            });
+        }
+        Ok(())
+    }
+
+    // The questions 4 to 9.
+    pub(crate) fn check(&self) -> Result<(), Refusal>
+        ensures { result ≡ list_answer self.now.points self.now.edges self.now.triangles.now }
+    {
+        self.check_triangles()?;
+        self.check_used()
+    }
 }

@@ -1,9 +1,12 @@
 // The questions that are asked triangle by triangle.
 ghost use Rattle.std.specs.Prelude.{◌≡◌, [], ◌∷◌};
-ghost use Rattle.questions.specs.Tests.{use_of, below, three, has_corner, covered, same_corners, agree, sides_agree, alone, pair, passes, first_no, every};
+ghost use Rattle.std.specs.List.{list_all};
+ghost use Rattle.questions.specs.Tests.{use_of, below, three, has_corner, covered, same_corners, agree, sides_agree, alone, pair, passes, first_no};
+ghost use Rattle.questions.specs.Answer.{refusal_of, asked};
 ghost use Rattle.shape.specs.Sides.{uses};
 
 use crate::side::Side;
+use refusal::Refusal;
 use shape::triangle::Triangle;
 
 #[derive(Clone, Copy)]
@@ -63,17 +66,17 @@ impl Question {
     }
 
     fn side_agrees(self, u: Side, t: &Triangle) -> bool
-        ensures { result ≡ every (agree self (use_of u)) (uses (t.now ∷ [])) }
+        ensures { result ≡ list_all (agree self (use_of u)) (uses (t.now ∷ [])) }
     {
-        self.agree(u, Side::ab(t)) && self.agree(u, Side::bc(t)) && self.agree(u, Side::ca(t))
+        let [ab, bc, ca] = Side::all(t);
+        self.agree(u, ab) && self.agree(u, bc) && self.agree(u, ca)
     }
 
     fn sides_agree(self, s: &Triangle, t: &Triangle) -> bool
         ensures { result ≡ sides_agree self s.now t.now }
     {
-        self.side_agrees(Side::ab(s), t)
-            && self.side_agrees(Side::bc(s), t)
-            && self.side_agrees(Side::ca(s), t)
+        let [ab, bc, ca] = Side::all(s);
+        self.side_agrees(ab, t) && self.side_agrees(bc, t) && self.side_agrees(ca, t)
     }
 
     fn alone(self, t: &Triangle) -> bool
@@ -97,30 +100,51 @@ impl Question {
         }
     }
 
+    fn agrees_with_each(self, earlier: &[Triangle], t: &Triangle) -> bool
+        ensures { result ≡ list_all (λ s. pair self s t.now) earlier.now }
+    {
+        earlier.iter().all(|s| self.pair(s, t))
+    }
+
     // Whether the answer stays yes when `t` follows the triangles `earlier`.
     fn passes(self, earlier: &[Triangle], t: &Triangle) -> bool
         ensures { result ≡ passes self earlier.now t.now }
     {
-        if !self.alone(t) {
-            return false;
-        }
-        for s in earlier {
-            if !self.pair(s, t) {
-                return false;
-            }
-        }
-        true
+        self.alone(t) && self.agrees_with_each(earlier, t)
     }
 
     // The first triangle at which the answer is no.
-    pub(crate) fn first_no(self, triangles: &[Triangle]) -> Option<usize>
+    fn first_no(self, triangles: &[Triangle]) -> Option<usize>
         ensures { result ≡ first_no self triangles.now }
     {
-        for i in 0..triangles.len() {
-            if !self.passes(&triangles[0..i], &triangles[i]) {
+        for (i, t) in triangles.iter().enumerate() {
+            if !self.passes(&triangles[..i], t) {
                 return Some(i);
             }
         }
         None
+    }
+
+    // What is answered where the triangle is the first at which the answer is no.
+    fn refusal(self, triangle: usize) -> Refusal
+        ensures { result ≡ refusal_of self triangle }
+    {
+        match self {
+            Question::InRange { .. } => Refusal::OutOfRange { triangle },
+            Question::DifferentCorners => Refusal::RepeatedCorner { triangle },
+            Question::EdgesMatch => Refusal::EdgeMismatch { triangle },
+            Question::OneWayEach => Refusal::EdgeDirection { triangle },
+            Question::DifferentSets => Refusal::RepeatedTriangle { triangle },
+        }
+    }
+
+    // Puts the question to the whole list.
+    pub(crate) fn ask(self, triangles: &[Triangle]) -> Result<(), Refusal>
+        ensures { result ≡ asked self triangles.now }
+    {
+        match self.first_no(triangles) {
+            Some(triangle) => Err(self.refusal(triangle)),
+            None => Ok(()),
+        }
     }
 }

@@ -1,11 +1,11 @@
 // A side of a triangle: an edge, walked from one corner to the next.
-ghost use Rattle.std.specs.Prelude.{◌≡◌};
-ghost use Rattle.shape.specs.Sides.{walk};
+ghost use Rattle.std.specs.Prelude.{◌≡◌, [], ◌∷◌, map};
+ghost use Rattle.shape.specs.Sides.{uses};
 ghost use Rattle.questions.specs.Tests.{use_of, same_ends, same_way, matches};
 
 use shape::triangle::Triangle;
 
-#[derive(Clone, Copy)]
+#[derive(Clone, Copy, PartialEq)]
 pub(crate) struct Side {
     pub(crate) edge: usize,
     pub(crate) start: u32,
@@ -13,34 +13,16 @@ pub(crate) struct Side {
 }
 
 impl Side {
-    pub(crate) fn ab(t: &Triangle) -> Side
-        ensures { use_of result ≡ walk t.now.ab t.now.a t.now.b }
+    // The sides ab, bc, ca.
+    pub(crate) fn all(t: &Triangle) -> [Side; 3]
+        ensures { map use_of result ≡ uses (t.now ∷ []) }
     {
-        Side {
-            edge: t.ab,
-            start: t.a,
-            stop: t.b,
-        }
-    }
-
-    pub(crate) fn bc(t: &Triangle) -> Side
-        ensures { use_of result ≡ walk t.now.bc t.now.b t.now.c }
-    {
-        Side {
-            edge: t.bc,
-            start: t.b,
-            stop: t.c,
-        }
-    }
-
-    pub(crate) fn ca(t: &Triangle) -> Side
-        ensures { use_of result ≡ walk t.now.ca t.now.c t.now.a }
-    {
-        Side {
-            edge: t.ca,
-            start: t.c,
-            stop: t.a,
-        }
+        let side = |edge, start, stop| Side { edge, start, stop };
+        [
+            side(t.ab, t.a, t.b),
+            side(t.bc, t.b, t.c),
+            side(t.ca, t.c, t.a),
+        ]
     }
 
     // Whether the two join one pair of corners.
@@ -62,6 +44,6 @@ impl Side {
     pub(crate) fn same_way(self, other: Side) -> bool
         ensures { result ≡ same_way (use_of self) (use_of other) }
     {
-        self.edge == other.edge && self.start == other.start && self.stop == other.stop
+        self == other
     }
 }

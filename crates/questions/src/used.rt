@@ -23,22 +23,12 @@ fn touch(part: Part, i: usize, t: &Triangle) -> bool
 fn is_used(part: Part, i: usize, triangles: &[Triangle]) -> bool
     ensures { result ≡ is_used part triangles.now i }
 {
-    for t in triangles {
-        if touch(part, i, t) {
-            return true;
-        }
-    }
-    false
+    triangles.iter().any(|t| touch(part, i, t))
 }
 
 // The first of `count` edges or points that no triangle uses.
 pub(crate) fn first_unused(part: Part, count: usize, triangles: &[Triangle]) -> Option<usize>
     ensures { result ≡ first_lack (is_used part triangles.now) count }
 {
-    for i in 0..count {
-        if !is_used(part, i, triangles) {
-            return Some(i);
-        }
-    }
-    None
+    (0..count).find(|i| !is_used(part, *i, triangles))
 }

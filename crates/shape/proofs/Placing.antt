@@ -1,25 +1,11 @@
 -- Interpolation along a list of vertices, place by place.
-use Rattle.std.proofs.Common.{◌≡◌, ℕ, zero, suc, ◌+◌, ◌<◌, ◌≤◌, true, false, ltb, ◌≢◌, List, [], ◌∷◌, length, get_or, drop, set, sym, refl, ap, ◌∙◌, add-one, arith, length-set, get_or-set_other, get_or-set_same}
+use Rattle.std.proofs.Common.{◌≡◌, ℕ, zero, suc, ◌+◌, ◌<◌, true, ltb, ◌≢◌, List, [], ◌∷◌, length, get_or, drop, set, sym, refl, ap, ◌∙◌, add-one, arith, length-set, get_or-set_other, get_or-set_same}
 use Rattle.std.proofs.lemmas.List.{drop_more}
 use Rattle.shape.specs.Listing.{all_below, placed, Listed}
-use Rattle.shape.proofs.Booleans.{and_no, and_left, and_right}
-
-lt→is : (a b : ℕ) → a < b → ltb a b ≡ true
-lt→is a b h = grind arith
+use Rattle.shape.proofs.Booleans.{and_left, and_right}
 
 is→lt : (a b : ℕ) → ltb a b ≡ true → a < b
 is→lt a b h = grind arith
-
-not_below : (a b : ℕ) → b ≤ a → ltb a b ≡ false
-not_below a b h = grind arith
-
-pub below_no : (xs : List ℕ) (i n d : ℕ) → i < length xs → n ≤ get_or xs i d → all_below xs n ≡ false
-below_no [] i n d h k = absurd (omega arith)
-below_no (x ∷ xs) zero n d h k = rw (not_below x n k)
-below_no (x ∷ xs) (suc i) n d h k = let l : i < length xs = omega arith in rw (below_no xs i n d l k) (and_no (ltb x n))
-
-pub below_more : (xs : List ℕ) (i n : ℕ) → i < length xs → get_or xs i 0 < n → all_below (drop i xs) n ≡ all_below (drop (i + 1) xs) n
-below_more xs i n h k = rw (drop_more xs i 0 h) (rw (lt→is (get_or xs i 0) n k) refl)
 
 pub below_yes : (xs : List ℕ) (i n d : ℕ) → i < length xs → all_below xs n ≡ true → get_or xs i d < n
 below_yes [] i n d h k = absurd (omega arith)

@@ -1,5 +1,6 @@
 -- Interpolation along a list of vertices.
-use Rattle.std.specs.Prelude.{◌≡◌, ℕ, suc, ◌+◌, ◌<◌, Bool, true, cond, ◌&&◌, List, [], ◌∷◌, length, pos, Ok, Err, Result, ◌≢◌, nat_le, nat_lt, slice_index, slice_index_or, slice_set, Float}
+use Rattle.std.specs.Prelude.{◌≡◌, ℕ, suc, ◌+◌, ◌<◌, Bool, cond, ◌&&◌, List, [], ◌∷◌, length, pos, Ok, Err, Result, ◌≢◌, nat_le, nat_lt, slice_index, slice_index_or, slice_set, Float}
+use Rattle.std.specs.List.{list_all}
 use Rattle.std.specs.Float.{binary32}
 use Rattle.std.specs.Float.Ieee.{of_int, div}
 use Rattle.point.specs.declared.Vec3A.{Vec3A}
@@ -11,8 +12,7 @@ abbrev pub share : ℕ → ℕ → Float
 share i n = div binary32 (of_int binary32 (pos (i + 1))) (of_int binary32 (pos (n + 1)))
 
 abbrev pub all_below : List ℕ → ℕ → Bool
-all_below [] n = true
-all_below (x ∷ xs) n = nat_lt x n && all_below xs n
+all_below xs n = list_all (λ x. nat_lt x n) xs
 
 -- at most 3,360 vertices are listed, each one of the n points
 abbrev pub listable : List ℕ → ℕ → Bool

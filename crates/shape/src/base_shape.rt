@@ -63,8 +63,8 @@ pub trait BaseShape {
                 points: buffer.len(),
             });
         }
-        for i in 0..listed {
-            buffer[indices[i] as usize] = self.interpolate(a, b, fraction(i, listed));
+        for (i, vertex) in indices.iter().enumerate() {
+            buffer[*vertex as usize] = self.interpolate(a, b, fraction(i, listed));
         }
         Ok(())
     }

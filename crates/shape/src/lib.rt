@@ -2,6 +2,7 @@
 #![tactic(auto)]
 
 pub mod base_shape;
+pub mod linear_base;
 pub mod list_base;
 pub mod listing;
 pub mod lists;

@@ -1,12 +1,8 @@
 // A base over the caller's lists.
-ghost use Rattle.std.specs.Prelude.{◌≡◌};
-ghost use Rattle.point.specs.Points.{lerped, halved};
 
-use crate::base_shape::BaseShape;
-use crate::lists::element;
+use crate::linear_base::LinearBase;
 use crate::triangle::Triangle;
 use point::Vec3A;
-use point::interpolation::{lerp, lerp_half};
 
 #[derive(Clone, Copy)]
 pub struct ListBase<'a> {
@@ -15,42 +11,22 @@ pub struct ListBase<'a> {
     pub edges: usize,
 }
 
-impl<'a> BaseShape for ListBase<'a> {
+impl<'a> LinearBase for ListBase<'a> {
     ghost points = { λ s. s.points.now };
 
     ghost triangles = { λ s. s.triangles.now };
 
-    ghost edgeCount = { λ s. s.edges };
+    ghost edges = { λ s. s.edges };
 
-    ghost between = { λ _. lerped };
-
-    ghost half = { λ _. halved };
-
-    fn point_count(&self) -> usize {
-        self.points.len()
+    fn point_list(&self) -> &[Vec3A] {
+        self.points
     }
 
-    fn point(&self, i: usize) -> Option<Vec3A> {
-        element(self.points, i)
+    fn triangle_list(&self) -> &[Triangle] {
+        self.triangles
     }
 
-    fn triangle_count(&self) -> usize {
-        self.triangles.len()
-    }
-
-    fn triangle(&self, i: usize) -> Option<Triangle> {
-        element(self.triangles, i)
-    }
-
-    fn edges(&self) -> usize {
+    fn edge_count(&self) -> usize {
         self.edges
-    }
-
-    fn interpolate(&self, a: Vec3A, b: Vec3A, p: f32) -> Vec3A {
-        lerp(a, b, p)
-    }
-
-    fn interpolate_half(&self, a: Vec3A, b: Vec3A) -> Vec3A {
-        lerp_half(a, b)
     }
 }

@@ -5,5 +5,5 @@ ghost use Rattle.shape.specs.Lists.{At};
 pub fn element<T: Copy>(list: &[T], i: usize) -> Option<T>
     ensures { At list.now i result }
 {
-    if i < list.len() { Some(list[i]) } else { None }
+    list.get(i).copied()
 }

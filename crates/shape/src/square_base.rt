@@ -1,13 +1,9 @@
 // The square as a base: four points, two triangles, five edges.
-ghost use Rattle.std.specs.Prelude.{◌≡◌};
-ghost use Rattle.point.specs.Points.{lerped, halved};
 ghost use Rattle.shape.specs.Tables.{square_points, square_triangles};
 
-use crate::base_shape::BaseShape;
-use crate::lists::element;
+use crate::linear_base::LinearBase;
 use crate::triangle::Triangle;
 use point::Vec3A;
-use point::interpolation::{lerp, lerp_half};
 
 // On the XZ plane, with sides of length 2.
 #[derive(Clone, Copy)]
@@ -57,42 +53,22 @@ const TRIANGLES: [Triangle; 2] = [
 
 const EDGES: usize = 5;
 
-impl BaseShape for SquareBase {
+impl LinearBase for SquareBase {
     ghost points = { λ _. square_points };
 
     ghost triangles = { λ _. square_triangles };
 
-    ghost edgeCount = { λ _. 5 };
+    ghost edges = { λ _. 5 };
 
-    ghost between = { λ _. lerped };
-
-    ghost half = { λ _. halved };
-
-    fn point_count(&self) -> usize {
-        POINTS.len()
+    fn point_list(&self) -> &[Vec3A] {
+        &POINTS
     }
 
-    fn point(&self, i: usize) -> Option<Vec3A> {
-        element(&POINTS, i)
+    fn triangle_list(&self) -> &[Triangle] {
+        &TRIANGLES
     }
 
-    fn triangle_count(&self) -> usize {
-        TRIANGLES.len()
-    }
-
-    fn triangle(&self, i: usize) -> Option<Triangle> {
-        element(&TRIANGLES, i)
-    }
-
-    fn edges(&self) -> usize {
+    fn edge_count(&self) -> usize {
         EDGES
-    }
-
-    fn interpolate(&self, a: Vec3A, b: Vec3A, p: f32) -> Vec3A {
-        lerp(a, b, p)
-    }
-
-    fn interpolate_half(&self, a: Vec3A, b: Vec3A) -> Vec3A {
-        lerp_half(a, b)
     }
 }

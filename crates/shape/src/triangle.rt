@@ -1,7 +1,7 @@
 // A triangle of a base shape.
 
 // Corners a, b, c by the numbers of their points, and the edge numbers of the sides ab, bc, ca.
-#[derive(Clone, Copy, PartialEq, Eq, Debug)]
+#[derive(Clone, Copy, PartialEq, Eq, Default, Debug)]
 pub struct Triangle {
     pub a: u32,
     pub b: u32,

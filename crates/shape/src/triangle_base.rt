@@ -1,13 +1,9 @@
 // The triangle as a base: three points, one triangle, three edges.
-ghost use Rattle.std.specs.Prelude.{◌≡◌};
-ghost use Rattle.point.specs.Points.{lerped, halved};
 ghost use Rattle.shape.specs.Tables.{triangle_points, triangle_triangles};
 
-use crate::base_shape::BaseShape;
-use crate::lists::element;
+use crate::linear_base::LinearBase;
 use crate::triangle::Triangle;
 use point::Vec3A;
-use point::interpolation::{lerp, lerp_half};
 
 // On the XZ plane, inscribed in a circle of radius 1.
 #[derive(Clone, Copy)]
@@ -45,42 +41,22 @@ const TRIANGLES: [Triangle; 1] = [Triangle {
 
 const EDGES: usize = 3;
 
-impl BaseShape for TriangleBase {
+impl LinearBase for TriangleBase {
     ghost points = { λ _. triangle_points };
 
     ghost triangles = { λ _. triangle_triangles };
 
-    ghost edgeCount = { λ _. 3 };
+    ghost edges = { λ _. 3 };
 
-    ghost between = { λ _. lerped };
-
-    ghost half = { λ _. halved };
-
-    fn point_count(&self) -> usize {
-        POINTS.len()
+    fn point_list(&self) -> &[Vec3A] {
+        &POINTS
     }
 
-    fn point(&self, i: usize) -> Option<Vec3A> {
-        element(&POINTS, i)
+    fn triangle_list(&self) -> &[Triangle] {
+        &TRIANGLES
     }
 
-    fn triangle_count(&self) -> usize {
-        TRIANGLES.len()
-    }
-
-    fn triangle(&self, i: usize) -> Option<Triangle> {
-        element(&TRIANGLES, i)
-    }
-
-    fn edges(&self) -> usize {
+    fn edge_count(&self) -> usize {
         EDGES
-    }
-
-    fn interpolate(&self, a: Vec3A, b: Vec3A, p: f32) -> Vec3A {
-        lerp(a, b, p)
-    }
-
-    fn interpolate_half(&self, a: Vec3A, b: Vec3A) -> Vec3A {
-        lerp_half(a, b)
     }
 }

@@ -1,3 +1,4 @@
+pub mod Accepting
 pub mod Marks
 pub mod Refusing
 pub mod Starts

@@ -1,8 +1,10 @@
 -- A table in which a mark stands for a break, one place longer.
-use Rattle.std.proofs.Common.{◌≡◌, ℕ, suc, ◌+◌, ◌-◌, ◌<◌, Bool, true, false, cond, T, eqb, leb, List, [], ◌∷◌, ◌++◌, length, take, set, refl, ap, ◌∙◌, arith, le→leb, leb→le, length-set}
+use Rattle.std.proofs.Common.{◌≡◌, ℕ, suc, ◌+◌, ◌-◌, ◌<◌, Bool, true, false, cond, T, eqb, leb, List, [], ◌∷◌, ◌++◌, length, take, set, Ok, Err, refl, ap, ◌∙◌, arith, le→leb, leb→le, le-leb, length-set}
 use Rattle.std.proofs.lemmas.List.{take_more_set}
+use Rattle.refusal.specs.declared.Refusal.TheVariants.{SinkFull}
 use Rattle.mesh.specs.Sinks.{Pushed, Broken}
 use Rattle.strips.specs.Marks.{in_front, split_at_marks, mark_sink}
+use Rattle.strips.specs.Taking.{taken_or_full}
 
 abbrev Split : Type 0
 Split = List (List ℕ) × List ℕ
@@ -36,6 +38,10 @@ split_break (y ∷ xs) = ap (One (eqb y 4294967295) y) (split_break xs) ∙ one_
 
 one_less : (n j k u m : ℕ) → m ≡ n → j ≡ suc k → T (leb j (n - u)) → T (leb k (m - (u + 1)))
 one_less n j k u m e f t = let z = leb→le j (n - u) t in le→leb k (m - (u + 1)) (omega arith)
+
+-- one place more takes a number, or a break
+pub mark_takes : (u : ℕ) (xs : List ℕ) (p b : ℕ) → p + b ≡ 1 → u < length xs → taken_or_full (mark_sink u xs) p b ≡ Ok tt
+mark_takes u xs p b e h = ap (λ t. cond t (Ok tt) (Err (SinkFull p b))) (le-leb (p + b) (length xs - u) (omega arith))
 
 pub mark_push : (u : ℕ) (xs : List ℕ) (x : ℕ) → u < length xs → eqb x 4294967295 ≡ false → Pushed x (mark_sink u xs) (mark_sink (u + 1) (set xs u x))
 mark_push u xs x h n =

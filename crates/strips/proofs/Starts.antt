@@ -1,8 +1,10 @@
 -- Two tables, one place longer.
-use Rattle.std.proofs.Common.{◌≡◌, ℕ, zero, suc, ◌+◌, ◌-◌, ◌<◌, ◌≤◌, T, leb, ◌⊎◌, List, [], ◌∷◌, ◌++◌, length, get_or, take, drop, set, sym, refl, ap, ◌∙◌, subst, ap₂, inl, inr, arith, le→leb, leb→le, length-set}
+use Rattle.std.proofs.Common.{◌≡◌, ℕ, zero, suc, ◌+◌, ◌-◌, ◌<◌, ◌≤◌, T, cond, ◌&&◌, leb, ◌⊎◌, List, [], ◌∷◌, ◌++◌, length, get_or, take, drop, set, Ok, Err, sym, refl, ap, ◌∙◌, subst, ap₂, inl, inr, arith, le→leb, leb→le, le-leb, length-set}
 use Rattle.std.proofs.lemmas.List.{length-take-le, take_more_set, take-append-le, drop-append-le, take-take, get_or-set_same, get_or-set_other}
+use Rattle.refusal.specs.declared.Refusal.TheVariants.{SinkFull}
 use Rattle.mesh.specs.Sinks.{Pushed, Broken}
 use Rattle.strips.specs.Starts.{StartsWithin, cut_at, last_start, start_sink, both, first_of, second_of}
+use Rattle.strips.specs.Taking.{taken_or_full}
 
 -- every number of a list is at most n
 abbrev AtMost : ℕ → List ℕ → Type 0
@@ -50,6 +52,13 @@ break_within b es u h w k l = elim (below_or_at k b l) [
     below_or_at zero (suc b) l = inl (omega arith)
     below_or_at (suc k) zero l = absurd (omega arith)
     below_or_at (suc k) (suc b) l = elim (below_or_at k b (omega arith)) [ inl m ↦ inl (omega arith) | inr q ↦ inr (ap suc q) ]
+
+-- one place more in the one table takes a number, in the other a break
+pub start_takes :
+    (u : ℕ) (xs : List ℕ) (b : ℕ) (es : List ℕ) (p d : ℕ) → p ≤ length xs - u → d ≤ length es - b → taken_or_full (start_sink u xs b es) p d ≡ Ok tt
+start_takes u xs b es p d h k =
+    ap (λ t. cond (t && leb d (length es - b)) (Ok tt) (Err (SinkFull p d))) (le-leb p (length xs - u) h)
+    ∙ ap (λ t. cond t (Ok tt) (Err (SinkFull p d))) (le-leb d (length es - b) k)
 
 pub start_push :
     (u : ℕ) (xs : List ℕ) (b : ℕ) (es : List ℕ) (x : ℕ) → u < length xs → StartsWithin b es u

@@ -1,3 +1,4 @@
+pub mod Filled
 pub mod Taking
 pub mod Marks
 pub mod Starts

@@ -14,6 +14,10 @@ pub record Empty (s : Sink) : Type 0 where
 abbrev pub taken_or_full : Sink → ℕ → ℕ → Result (Unit {0}) Refusal
 taken_or_full s p b = cond (s.takes p b) (Ok tt) (Err (SinkFull p b))
 
+-- 14 for the number that no strip holds
+abbrev pub number_answer : ℕ → Result (Unit {0}) Refusal
+number_answer x = cond (x == 4294967295) (Err (NumberTooLarge x)) (Ok tt)
+
 -- 14 for the number that no strip holds, and else 15 exactly if no number can be taken
 abbrev pub push_answer : Sink → ℕ → Result (Unit {0}) Refusal
 push_answer s x = cond (x == 4294967295) (Err (NumberTooLarge x)) (taken_or_full s 1 0)

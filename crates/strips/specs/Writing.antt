@@ -1,5 +1,6 @@
 -- What writing one strip answers, and what it makes of a sink.
-use Rattle.std.specs.Prelude.{◌≡◌, ℕ, ◌+◌, cond, List, [], ◌∷◌, length, Some, None, Ok, Err, Option, Result, nat_lt}
+use Rattle.std.specs.Prelude.{◌≡◌, ℕ, ◌+◌, List, [], ◌∷◌, length, Some, None, Ok, Err, Option, Result, nat_le, map}
+use Rattle.std.specs.List.{find}
 use Rattle.std.specs.Borrow.{GName}
 use Rattle.refusal.specs.declared.Refusal.{Refusal}
 use Rattle.refusal.specs.declared.Refusal.TheVariants.{NumberTooLarge}
@@ -9,8 +10,7 @@ use Rattle.strips.specs.Taking.{taken_or_full}
 
 -- the first number that, with the offset, is not below 4,294,967,295
 abbrev pub first_too_large : ℕ → List ℕ → Option ℕ
-first_too_large offset [] = None
-first_too_large offset (x ∷ xs) = cond (nat_lt (x + offset) 4294967295) (first_too_large offset xs) (Some (x + offset))
+first_too_large offset xs = find (λ y. nat_le 4294967295 y) (map (λ x. x + offset) xs)
 
 abbrev pub too_large_or : Option ℕ → Result (Unit {0}) Refusal → Result (Unit {0}) Refusal
 too_large_or (Some x) r = Err (NumberTooLarge x)

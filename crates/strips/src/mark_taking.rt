@@ -3,47 +3,29 @@ ghost use Rattle.std.specs.Prelude.{◌≡◌, List, [], ◌∷◌};
 ghost use Rattle.strips.specs.Marks.{mark_sink};
 
 use crate::mark_sink::MarkSink;
-use crate::sink::{MARK, Sink};
+use crate::sink::{MARK, Sink, check_number};
 use refusal::Refusal;
 
 impl<'a> Sink for MarkSink<'a> {
-    ghost meaning = { λ s. mark_sink s.used s.places.now };
+    ghost meaning = { λ s. mark_sink s.strips.used s.strips.places.now };
 
-    ghost held = { λ s. s.places.ghost_name ∷ [] };
+    ghost held = { λ s. s.strips.places.ghost_name ∷ [] };
 
     fn can_take(&self, numbers: usize, breaks: usize) -> bool {
-        let free = self.places.len().saturating_sub(self.used);
+        let free = self.strips.free();
         numbers <= free && breaks <= free - numbers
     }
 
     fn push(&mut self, number: u32) -> Result<(), Refusal> {
-        if number == MARK {
-            return Err(Refusal::NumberTooLarge {
-                number: u64::from(number),
-            });
-        }
-        if !self.can_take(1, 0) {
-            return Err(Refusal::SinkFull {
-                numbers: 1,
-                breaks: 0,
-            });
-        }
-        let at = self.used;
-        self.places[at] = number;
-        self.used = at + 1;
+        check_number(number)?;
+        self.check_room(1, 0)?;
+        self.strips.push(number);
         Ok(())
     }
 
     fn end_strip(&mut self) -> Result<(), Refusal> {
-        if !self.can_take(0, 1) {
-            return Err(Refusal::SinkFull {
-                numbers: 0,
-                breaks: 1,
-            });
-        }
-        let at = self.used;
-        self.places[at] = MARK;
-        self.used = at + 1;
+        self.check_room(0, 1)?;
+        self.strips.push(MARK);
         Ok(())
     }
 }

@@ -9,13 +9,10 @@ use refusal::Refusal;
 fn first_too_large(numbers: &[u32], offset: u32) -> Option<u64>
     ensures { result ≡ first_too_large offset numbers.now }
 {
-    for number in numbers {
-        let sum = u64::from(*number) + u64::from(offset);
-        if sum >= u64::from(MARK) {
-            return Some(sum);
-        }
-    }
-    None
+    numbers
+        .iter()
+        .map(|number| u64::from(*number) + u64::from(offset))
+        .find(|sum| *sum >= u64::from(MARK))
 }
 
 // Writes the numbers, each plus the offset, and a break. All is asked before the first write.
@@ -25,12 +22,7 @@ pub fn write_strip<K: Sink>(sink: &mut K, numbers: &[u32], offset: u32) -> Resul
     if let Some(number) = first_too_large(numbers, offset) {
         return Err(Refusal::NumberTooLarge { number });
     }
-    if !sink.can_take(numbers.len(), 1) {
-        return Err(Refusal::SinkFull {
-            numbers: numbers.len(),
-            breaks: 1,
-        });
-    }
+    sink.check_room(numbers.len(), 1)?;
     for number in numbers {
         sink.push(*number + offset)?;
     }

@@ -1,6 +1,5 @@
-use Rattle.std.proofs.Common.{◌≡◌, ℕ, suc, ◌+◌, ◌-◌, ◌<◌, ◌≤◌, cond, T, List, [], ◌∷◌, length, get_or, Ok, Err, sym, ap, ◌∙◌, subst, arith}
+use Rattle.std.proofs.Common.{◌≡◌, ℕ, suc, ◌+◌, ◌-◌, ◌<◌, ◌≤◌, T, List, [], ◌∷◌, length, get_or, sym, ap, ◌∙◌, subst, arith}
 use Rattle.std.proofs.lemmas.List.{drop_all, drop_more}
-use Rattle.refusal.specs.declared.Refusal.TheVariants.{SinkFull}
 use Rattle.mesh.specs.Sinks.{Sink, Writes, nothing, a_number, a_break}
 use Rattle.mesh.specs.Strips.{offset_by}
 use Rattle.strips.specs.Taking.{taken_or_full}
@@ -55,8 +54,8 @@ returns g c =
     record {
       answers =
           ok
-          ∙ sym (ap (λ r. too_large_or r (taken_or_full first (length xs) 1)) (sym c.in_default.ensures)
-          ∙ ap (λ b. cond b (Ok tt) (Err (SinkFull (length xs) 1))) (sym c.if-not-can_take.ensures));
+          ∙ sym c.in_ok-check_room.was ∙ c.check_room.ensures
+          ∙ ap (λ r. too_large_or r (taken_or_full first (length xs) 1)) c.in_default.ensures;
       accepted = λ q. c.loop-number.invariant.0 t (subst (λ (l : List ℕ). Writes (offset_by o (l ∷ [])) s t) (sym (drop_all i xs h)) (a_break (c.end_strip.ensures.accepted q) nothing));
       refused = λ e q. absurd (not_both c.end_strip.result tt e ok q);
       holds = c.end_strip.ensures.holds ∙ c.loop-number.invariant.2;

@@ -8,8 +8,8 @@ use Rattle.shape.proofs.Booleans.{and_right}
 use Rattle.shape.proofs.Placing.{below_yes, placed_more}
 use Rattle.shape.proofs.base_shape.BaseShape.interpolate_multiple.Goals as goal
 
-pub bounds-buffer-indices : goal.bounds-buffer-indices
-bounds-buffer-indices g c =
+pub bounds-buffer-vertex : goal.bounds-buffer-vertex
+bounds-buffer-vertex g c =
     let xs = c.args.indices.now in
     let i = c.loop-i.i in
     let m = length c.args.buffer.now in

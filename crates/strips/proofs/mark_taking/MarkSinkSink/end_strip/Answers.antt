@@ -1,18 +1,18 @@
-use Rattle.std.proofs.Common.{◌-◌, ◌<◌, ◌≤◌, cond, length, Ok, Err, sym, refl, ap, arith, rules, le-leb}
-use Rattle.refusal.specs.declared.Refusal.TheVariants.{SinkFull}
-use Rattle.strips.proofs.Marks.{mark_break}
+use Rattle.std.proofs.Common.{◌<◌, length, Ok, sym, refl, ap, [], ◌∷◌, rules}
+use Rattle.mesh.specs.Sinks.{Broken}
+use Rattle.strips.specs.Marks.{mark_sink}
+use Rattle.strips.proofs.Accepting.{after_filling}
+use Rattle.strips.proofs.Marks.{mark_break, mark_takes}
 use Rattle.strips.proofs.Refusing.{not_both}
 use Rattle.strips.proofs.mark_taking.MarkSinkSink.end_strip.Goals as goal
 
 pub returns : goal.returns
 returns c =
-    let xs = c.args.self.now.places.now in
-    let u = c.args.self.now.used in
-    let h : u < length xs = search rules in
-    let r : 1 ≤ length xs - u = omega arith in
+    let s = c.args.self.now.strips in
+    let h : s.used < length s.places.now = search rules in
     record {
-      answers = sym (ap (λ t. cond t (Ok tt) (Err (SinkFull 0 1))) (le-leb 1 (length xs - u) r));
-      accepted = λ _. mark_break u xs h;
+      answers = sym (mark_takes s.used s.places.now 0 1 refl h);
+      accepted = λ _. after_filling (λ n l. Broken (mark_sink s.used s.places.now) (mark_sink n l)) c.push.ensures (mark_break s.used s.places.now h);
       refused = λ f q. absurd (not_both (Ok tt) tt f refl q);
-      holds = refl;
+      holds = ap (λ n. n ∷ []) c.push.ensures.same;
     }

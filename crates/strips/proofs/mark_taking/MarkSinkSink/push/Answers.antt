@@ -1,23 +1,20 @@
-use Rattle.std.proofs.Common.{◌≡◌, ◌-◌, ◌<◌, ◌≤◌, true, false, cond, eqb, leb, length, Ok, Err, sym, refl, ap, ◌∙◌, arith, rules, ne_eqb, le-leb}
-use Rattle.refusal.specs.declared.Refusal.TheVariants.{NumberTooLarge, SinkFull}
+use Rattle.std.proofs.Common.{◌<◌, length, Ok, sym, refl, ap, ◌∙◌, [], ◌∷◌, rules}
+use Rattle.mesh.specs.Sinks.{Pushed}
 use Rattle.strips.specs.Marks.{mark_sink}
-use Rattle.strips.specs.Taking.{taken_or_full}
-use Rattle.strips.proofs.Marks.{mark_push}
+use Rattle.strips.proofs.Accepting.{no_mark, push_passes, after_filling}
+use Rattle.strips.proofs.Marks.{mark_push, mark_takes}
 use Rattle.strips.proofs.Refusing.{not_both}
 use Rattle.strips.proofs.mark_taking.MarkSinkSink.push.Goals as goal
 
 pub returns : goal.returns
 returns c =
-    let xs = c.args.self.now.places.now in
-    let u = c.args.self.now.used in
+    let s = c.args.self.now.strips in
     let x = c.args.number in
-    let h : u < length xs = search rules in
-    let r : 1 ≤ length xs - u = omega arith in
-    let n : eqb x 4294967295 ≡ false = ne_eqb x 4294967295 (λ q. omega (arith, q)) in
-    let b : leb 1 (length xs - u) ≡ true = le-leb 1 (length xs - u) r in
+    let h : s.used < length s.places.now = search rules in
+    let q = sym c.check_number.ensures ∙ c.in_ok-check_number.was in
     record {
-      answers = sym (ap (λ t. cond t (Err (NumberTooLarge x)) (taken_or_full (mark_sink u xs) 1 0)) n ∙ ap (λ t. cond t (Ok tt) (Err (SinkFull 1 0))) b);
-      accepted = λ _. mark_push u xs x h n;
+      answers = sym (push_passes x _ q (mark_sink s.used s.places.now) tt (mark_takes s.used s.places.now 1 0 refl h));
+      accepted = λ _. after_filling (λ n l. Pushed x (mark_sink s.used s.places.now) (mark_sink n l)) c.push.ensures (mark_push s.used s.places.now x h (no_mark x _ q));
       refused = λ f q. absurd (not_both (Ok tt) tt f refl q);
-      holds = refl;
+      holds = ap (λ n. n ∷ []) c.push.ensures.same;
     }
