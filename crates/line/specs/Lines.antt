@@ -44,6 +44,11 @@ kind_of w =
     (cond (bytes_eq w (codes "square")) (Some Square)
     (cond (bytes_eq w (codes "list")) (Some ListKind) None))
 
+abbrev pub kind_name : Kind → List ℕ
+kind_name TriangleKind = codes "triangle"
+kind_name Square = codes "square"
+kind_name ListKind = codes "list"
+
 abbrev pub read_base : Rest → Option Instruction
 read_base ws = and_then (next_by kind_of ws) (λ k. last k.1 (Base k.0))
 

@@ -2,6 +2,7 @@
 use crate::expected::Expected;
 use point::Vec3A;
 use shape::triangle::Triangle;
+use std::fmt;
 use std::str::FromStr;
 
 #[derive(Clone, Copy)]
@@ -38,5 +39,20 @@ impl FromStr for Kind {
             "list" => Ok(Kind::List),
             _ => Err(Expected::BaseLine),
         }
+    }
+}
+
+impl fmt::Display for Kind {
+    ghost use Rattle.std.specs.Prelude.{Some};
+    ghost use Rattle.line.specs.Lines.{kind_name};
+
+    ghost output = { λ kind. Some (kind_name kind) };
+
+    fn fmt<W: fmt::Write>(&self, f: &mut fmt::Formatter<W>) -> fmt::Result {
+        f.write_str(match self {
+            Kind::Triangle => "triangle",
+            Kind::Square => "square",
+            Kind::List => "list",
+        })
     }
 }

@@ -1,5 +1,5 @@
 -- What the order that is being read holds, and what each instruction makes of it.
-use Rattle.std.specs.Prelude.{◌≡◌, ℕ, List, [], ◌∷◌, ◌++◌, length, Some, None, Ok, Err, vec_items, Option, Result}
+use Rattle.std.specs.Prelude.{◌≡◌, ℕ, List, [], ◌∷◌, ◌++◌, length, Some, None, Ok, Err, Option, Result}
 use Rattle.point.specs.declared.Vec3A.{Vec3A}
 use Rattle.shape.specs.declared.triangle.Triangle.{Triangle}
 use Rattle.shape.specs.Tables.{triangle_points, triangle_triangles, square_points, square_triangles}
@@ -11,7 +11,6 @@ use Rattle.line.specs.declared.expected.Expected.{Expected}
 use Rattle.line.specs.declared.expected.Expected.TheVariants.{BaseFirst, CheckFirst, CheckBeforeEnd, ListBase, OneEdges, EdgesFirst}
 use Rattle.order.specs.declared.fault.Fault.{Fault}
 use Rattle.order.specs.declared.fault.Fault.TheVariants.{Unread, Memory}
-use Rattle.order.specs.declared.draft.Draft.{Draft}
 use Rattle.order.specs.declared.report.Report.{Report}
 use Rattle.order.specs.Reports.{Reports}
 
@@ -21,9 +20,6 @@ pub record Sheet : Type 0 where
   pub edges : Option ℕ
   pub points : List Vec3A
   pub triangles : List Triangle
-
-abbrev pub sheet : Draft → Sheet
-sheet d = record { kind = d.kind; edges = d.edges; points = vec_items d.points; triangles = vec_items d.triangles }
 
 abbrev pub empty_sheet : Sheet
 empty_sheet = record { kind = None; edges = None; points = []; triangles = [] }

@@ -4,7 +4,6 @@ use refusal::{Refusal, Unused};
 use std::alloc::Global;
 use std::fmt::Write;
 use std::test::Fail;
-use wording::InWords;
 
 // The answers to the orders in the text, and the problem that ends it.
 fn answers(heap: Global, text: &str) -> Result<String, Fail> {
@@ -13,19 +12,14 @@ fn answers(heap: Global, text: &str) -> Result<String, Fail> {
     for line in text.lines() {
         match reader.read(line) {
             Ok(None) => {}
-            Ok(Some(report)) => {
-                let report = InWords(report);
-                writeln!(out, "{report}")?;
-            }
+            Ok(Some(report)) => writeln!(out, "{report}")?,
             Err(problem) => {
-                let problem = InWords(problem);
                 write!(out, "{problem}")?;
                 return Ok(out);
             }
         }
     }
     if let Err(problem) = reader.finish() {
-        let problem = InWords(problem);
         write!(out, "{problem}")?;
     }
     Ok(out)
