@@ -3,12 +3,12 @@ use Rattle.std.proofs.Common.{Bor, Option, Some, None, not, true-eqb, false-eqb,
 use Rattle.std.specs.Bool.{then_some}
 use Rattle.std.specs.Iterator.{YieldsFirstRef, MakesProgress, item_count}
 use Rattle.std.specs.Str.{IsCharBoundary}
-use Rattle.std.specs.List.{prefix_len}
+use Rattle.std.specs.List.{prefix_len, take_while}
 use Rattle.std.proofs.lemmas.List.Sums.{prefix_len-le-length, prefix_len_passes, prefix_len_stops, prefix_len-drop_no, prefix_len-drop_all}
 use Rattle.std.proofs.lemmas.Bool.{cases_Bool, cases_lt, cond-true, cond-false, not-true, not-false, or_parts, or_cases, true≢false}
 use Rattle.std.proofs.lemmas.Str.{IsCharBoundary-start, IsCharBoundary-after_ascii}
 use Rattle.std.proofs.lemmas.Bool.Decides.{nat_tests}
-use Rattle.line.specs.Words.{blank, letter, lead, words_from, words}
+use Rattle.line.specs.Words.{blank, letter, words_from, words}
 
 -- the front that passes a test, one byte on
 longer : (p : ℕ → Bool) (c : ℕ) (cs : List ℕ) → p c ≡ true → prefix_len p (c ∷ cs) ≡ suc (prefix_len p cs)
@@ -60,16 +60,8 @@ words_past_blanks (c ∷ cs) =
     (λ e. ap (λ n. words (drop n (c ∷ cs))) (none blank c cs e))
     (cases_Bool (blank c))
 
-lead_is : (cs : List ℕ) → take (prefix_len letter cs) cs ≡ lead cs
-lead_is [] = refl
-lead_is (c ∷ cs) =
-    ⊎_elim
-    (λ e. ap (λ n. take n (c ∷ cs)) (longer letter c cs e) ∙ ap (λ l. c ∷ l) (lead_is cs) ∙ sym (cond-true (letter c) (c ∷ lead cs) [] e))
-    (λ e. ap (λ n. take n (c ∷ cs)) (none letter c cs e) ∙ sym (cond-false (letter c) (c ∷ lead cs) [] e))
-    (cases_Bool (letter c))
-
 -- what stands at a letter
-at_letter : (within : Bool) (c : ℕ) (cs : List ℕ) → letter c ≡ true → words_from within (c ∷ cs) ≡ cond within (words_from true cs) ((c ∷ lead cs) ∷ words_from true cs)
+at_letter : (within : Bool) (c : ℕ) (cs : List ℕ) → letter c ≡ true → words_from within (c ∷ cs) ≡ cond within (words_from true cs) (take_while letter (c ∷ cs) ∷ words_from true cs)
 at_letter within c cs e = cond-false (blank c) _ _ (letter_parts c e).0 ∙ cond-false (eqb c 35) _ _ (letter_parts c e).1
 
 -- at any other byte it does not matter whether the text begins within a word
@@ -94,7 +86,7 @@ one_word (c ∷ cs) word rest p q some =
     ⊎_elim
     (λ e.
     at_letter false c cs e
-    ∙ (λ i. (sym (cond-true (letter c) (c ∷ lead cs) [] e) ∙ sym (lead_is (c ∷ cs)) ∙ sym p) i ∷ (sym (at_letter true c cs e) ∙ words_past_letters (c ∷ cs) ∙ sym (ap words q)) i))
+    ∙ (λ i. sym p i ∷ (sym (at_letter true c cs e) ∙ words_past_letters (c ∷ cs) ∙ sym (ap words q)) i))
     (λ e. absurd (omega (arith, ap length p, ap (λ n. length (take n (c ∷ cs))) (none letter c cs e))))
     (cases_Bool (letter c))
 

@@ -34,9 +34,13 @@ abbrev pub and_then : {X Y : Type 0} → Option X → (X → Option Y) → Optio
 and_then None f = None
 and_then (Some x) f = f x
 
--- i, where no word is left
-abbrev pub last : Rest → Instruction → Option Instruction
-last ws i = cond (finished ws) (Some i) None
+-- x, where no word is left
+abbrev pub last : {X : Type 0} → Rest → X → Option X
+last ws x = cond (finished ws) (Some x) None
+
+-- what R allows to be read of the next word, where it is the last
+abbrev pub Last : {X : Type 0} → (List ℕ → Option X → Type 0) → Rest → Option X → Type 0
+Last {X} R ws r = (x : Option (X × Rest)) × Next R ws x × (r ≡ and_then x (λ x. last x.1 x.0))
 
 abbrev pub kind_of : List ℕ → Option Kind
 kind_of w =

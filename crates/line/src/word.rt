@@ -6,7 +6,7 @@ ghost use Rattle.line.specs.Lines.{kind_of};
 use crate::instruction::Kind;
 
 // A value that one word writes.
-pub(crate) trait Word: Sized {
+pub(crate) trait Word: Sized + Drop {
     // what the bytes of a word may be read as
     ghost writes: { List ℕ → Option Self → Type 0 };
 

@@ -3,7 +3,7 @@ ghost use Rattle.std.specs.Prelude.{◌≡◌, ℕ, List};
 ghost use Rattle.std.specs.Iterator.{YieldsFirstRef, item_count};
 ghost use Rattle.std.specs.Option.{option_map};
 ghost use Rattle.line.specs.Words.{blank, letter, words};
-ghost use Rattle.line.specs.Lines.{Next};
+ghost use Rattle.line.specs.Lines.{Next, Last};
 
 use crate::word::Word;
 use std::marker::Model;
@@ -33,7 +33,7 @@ impl<'a> Model for Words<'a> {
 }
 
 impl<'a> Words<'a> {
-    pub(crate) fn of(line: &'a str) -> Words<'a>
+    pub(crate) fn new(line: &'a str) -> Words<'a>
         ensures { result ≡ words line.now }
     {
         Words { rest: line }
@@ -44,6 +44,14 @@ impl<'a> Words<'a> {
         ensures { Next T.writes self.old (option_map (λ x. (x, self.new)) result) }
     {
         T::of_word(self.next()?)
+    }
+
+    // The same of the last word, none where another follows.
+    pub(crate) fn read_last<T: Word>(&mut self) -> Option<T>
+        ensures { Last T.writes self.old result }
+    {
+        let value = self.read()?;
+        self.next().is_none().then_some(value)
     }
 }
 

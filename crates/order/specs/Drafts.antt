@@ -51,10 +51,10 @@ checkable (Some ListKind) (Some e) r = r
 
 -- what an instruction makes of a sheet, or what was expected in its place; after a check a new order begins
 abbrev pub takes : Instruction → Sheet → Result Sheet Expected
-takes (Base k) s = none_begun s.kind (Ok (record { kind = Some k; edges = s.edges; points = s.points; triangles = s.triangles }))
-takes (Edges e) s = list_only s.kind (no_edges s.edges (Ok (record { kind = s.kind; edges = Some e; points = s.points; triangles = s.triangles })))
-takes (Point p) s = list_only s.kind (Ok (record { kind = s.kind; edges = s.edges; points = s.points ++ p ∷ []; triangles = s.triangles }))
-takes (TriangleLine t) s = list_only s.kind (Ok (record { kind = s.kind; edges = s.edges; points = s.points; triangles = s.triangles ++ t ∷ [] }))
+takes (Base k) s = none_begun s.kind (Ok (record s { kind = Some k }))
+takes (Edges e) s = list_only s.kind (no_edges s.edges (Ok (record s { edges = Some e })))
+takes (Point p) s = list_only s.kind (Ok (record s { points = s.points ++ p ∷ [] }))
+takes (TriangleLine t) s = list_only s.kind (Ok (record s { triangles = s.triangles ++ t ∷ [] }))
 takes Check s = checkable s.kind s.edges (Ok empty_sheet)
 
 -- the answer where the input ends: no order is left unchecked
