@@ -1,6 +1,6 @@
 // The order that is being read.
 ghost use Rattle.std.specs.Prelude.{◌≡◌, Ok};
-ghost use Rattle.line.specs.declared.instruction.Instruction.TheVariants.{Base, Edges, Point, Triangle as TriangleLine};
+ghost use Rattle.line.specs.declared.instruction.Instruction.TheVariants.{Base, Edges};
 ghost use Rattle.order.specs.Drafts.{empty_sheet, list_only, ended, Taken, Checked, Answered};
 
 use crate::fault::Fault;
@@ -76,22 +76,6 @@ impl Draft {
         Ok(())
     }
 
-    fn add_point(&mut self, point: Vec3A) -> Result<(), Fault>
-        ensures { Taken self.old (Point point) result self.new }
-    {
-        self.expect_list()?;
-        self.points.push(point)?;
-        Ok(())
-    }
-
-    fn add_triangle(&mut self, triangle: Triangle) -> Result<(), Fault>
-        ensures { Taken self.old (TriangleLine triangle) result self.new }
-    {
-        self.expect_list()?;
-        self.triangles.push(triangle)?;
-        Ok(())
-    }
-
     // Answers, and makes room for the next order.
     fn check(&mut self) -> Result<Report, Fault>
         ensures { Checked self.old result self.new }
@@ -133,8 +117,14 @@ impl Draft {
         match instruction {
             Instruction::Base(kind) => self.begin(kind)?,
             Instruction::Edges(edges) => self.set_edges(edges)?,
-            Instruction::Point(point) => self.add_point(point)?,
-            Instruction::Triangle(triangle) => self.add_triangle(triangle)?,
+            Instruction::Point(point) => {
+                self.expect_list()?;
+                self.points.push(point)?;
+            }
+            Instruction::Triangle(triangle) => {
+                self.expect_list()?;
+                self.triangles.push(triangle)?;
+            }
             Instruction::Check => return self.check().map(Some),
         }
         Ok(None)

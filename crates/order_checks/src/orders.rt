@@ -115,8 +115,8 @@ const CASES: [(&str, &str); 22] = [
 
 #[test]
 fn problems_are_told_with_their_line(rt: HostRuntime) -> Result<(), Fail> {
-    for case in &CASES {
-        assert_eq!(rt; answers(rt.alloc(), case.0)?.as_str(), case.1);
+    for (order, answer) in &CASES {
+        assert_eq!(rt; answers(rt.alloc(), order)?.as_str(), *answer);
     }
     Ok(())
 }
@@ -242,9 +242,8 @@ const SENTENCES: [(Refusal, &str); 18] = [
 
 #[test]
 fn each_refusal_has_its_sentence(rt: HostRuntime) -> Result<(), Fail> {
-    for case in &SENTENCES {
-        let refusal = case.0;
-        assert_eq!(rt; format!(in rt.alloc(); "{refusal}")?.as_str(), case.1);
+    for (refusal, sentence) in &SENTENCES {
+        assert_eq!(rt; format!(in rt.alloc(); "{refusal}")?.as_str(), *sentence);
     }
     Ok(())
 }
