@@ -70,11 +70,10 @@ Grows (Point p) = Unit {0}
 Grows (TriangleLine t) = Unit {0}
 Grows Check = ⊥
 
--- the instruction is taken, or refused with what was expected, or finds no memory; the last two leave the sheet
-abbrev pub Taken : Sheet → Instruction → Result (Unit {0}) Fault → Sheet → Type 0
+-- the instruction is taken, or refused with what was expected, which leaves the sheet
+abbrev pub Taken : Sheet → Instruction → Result (Unit {0}) Expected → Sheet → Type 0
 Taken s i (Ok _) new = takes i s ≡ Ok new
-Taken s i (Err (Unread e)) new = (takes i s ≡ Err e) × (new ≡ s)
-Taken s i (Err Memory) new = Grows i × (new ≡ s)
+Taken s i (Err e) new = (takes i s ≡ Err e) × (new ≡ s)
 
 -- what is reported of the base that a sheet describes
 abbrev pub ReportOn : Option Kind → Option ℕ → List Vec3A → List Triangle → Report → Type 0
@@ -84,10 +83,9 @@ ReportOn (Some Square) e ps ts r = Reports Square (length square_points) 5 squar
 ReportOn (Some ListKind) None ps ts r = ⊥
 ReportOn (Some ListKind) (Some e) ps ts r = Reports ListKind (length ps) e ts r
 
-abbrev pub Checked : Sheet → Result Report Fault → Sheet → Type 0
+abbrev pub Checked : Sheet → Result Report Expected → Sheet → Type 0
 Checked s (Ok r) new = (takes Check s ≡ Ok new) × ReportOn s.kind s.edges s.points s.triangles r
-Checked s (Err (Unread e)) new = (takes Check s ≡ Err e) × (new ≡ s)
-Checked s (Err Memory) new = ⊥
+Checked s (Err e) new = (takes Check s ≡ Err e) × (new ≡ s)
 
 -- the instructions that are not answered
 abbrev pub Silent : Instruction → Type 0
@@ -97,7 +95,7 @@ Silent (Point p) = Unit {0}
 Silent (TriangleLine t) = Unit {0}
 Silent Check = ⊥
 
--- the instruction is taken and, if it is a check, answered; or it is refused, or finds no memory
+-- the instruction is taken and, if it is a check, answered; or it is refused, or finds no memory, which leave the sheet
 abbrev pub Answered : Sheet → Instruction → Result (Option Report) Fault → Sheet → Type 0
 Answered s i (Ok None) new = Silent i × (takes i s ≡ Ok new)
 Answered s i (Ok (Some r)) new = (i ≡ Check) × Checked s (Ok r) new

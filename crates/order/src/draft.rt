@@ -44,11 +44,11 @@ impl Draft {
         }
     }
 
-    fn begin(&mut self, kind: Kind) -> Result<(), Fault>
+    fn begin(&mut self, kind: Kind) -> Result<(), Expected>
         ensures { Taken self.old (Base kind) result self.new }
     {
         if self.kind.is_some() {
-            return Err(Fault::Unread(Expected::CheckFirst));
+            return Err(Expected::CheckFirst);
         }
         self.kind = Some(kind);
         Ok(())
@@ -65,19 +65,19 @@ impl Draft {
         }
     }
 
-    fn set_edges(&mut self, edges: usize) -> Result<(), Fault>
+    fn set_edges(&mut self, edges: usize) -> Result<(), Expected>
         ensures { Taken self.old (Edges edges) result self.new }
     {
         self.expect_list()?;
         if self.edges.is_some() {
-            return Err(Fault::Unread(Expected::OneEdges));
+            return Err(Expected::OneEdges);
         }
         self.edges = Some(edges);
         Ok(())
     }
 
     // Answers, and makes room for the next order.
-    fn check(&mut self) -> Result<Report, Fault>
+    fn check(&mut self) -> Result<Report, Expected>
         ensures { Checked self.old result self.new }
     {
         let report = match self.kind.ok_or(Expected::BaseFirst)? {
@@ -125,7 +125,7 @@ impl Draft {
                 self.expect_list()?;
                 self.triangles.push(triangle)?;
             }
-            Instruction::Check => return self.check().map(Some),
+            Instruction::Check => return Ok(Some(self.check()?)),
         }
         Ok(None)
     }
