@@ -1,5 +1,5 @@
 -- Where a line is cut into words.
-use Rattle.std.proofs.Common.{Bor, Option, Some, None, not, true-eqb, false-eqb, ◌≡◌, ℕ, suc, ◌+◌, ◌-◌, ◌<◌, Bool, true, false, cond, eqb, List, [], ◌∷◌, length, get_or, take, drop, IsUtf8, sym, refl, ap, ◌∙◌, subst, ⊎_elim, one-add, arith, length-take-le}
+use Rattle.std.proofs.Common.{◌≡◌, ℕ, suc, ◌+◌, ◌-◌, ◌<◌, Bool, true, false, not, cond, eqb, List, [], ◌∷◌, length, get_or, take, drop, Option, Some, None, Bor, IsUtf8, sym, refl, ap, ◌∙◌, subst, ⊎_elim, one-add, arith, length-take-le, true-eqb, false-eqb}
 use Rattle.std.specs.Bool.{then_some}
 use Rattle.std.specs.Iterator.{YieldsFirstRef, MakesProgress, item_count}
 use Rattle.std.specs.Str.{IsCharBoundary}

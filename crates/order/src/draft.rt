@@ -15,6 +15,7 @@ use shape::triangle_base::TriangleBase;
 use std::alloc::Global;
 use std::marker::Model;
 
+// What was read of the order so far; contracts see it as a sheet.
 #[derive(Drop)]
 pub struct Draft {
     kind: Option<Kind>,
@@ -85,16 +86,12 @@ impl Draft {
             Kind::Square => Report::on(Kind::Square, &SquareBase),
             Kind::List => {
                 let edges = self.edges.ok_or(Expected::EdgesFirst)?;
-                let points = self.points.as_slice();
-                let triangles = self.triangles.as_slice();
-                Report::on(
-                    Kind::List,
-                    &ListBase {
-                        points,
-                        triangles,
-                        edges,
-                    },
-                )
+                let base = ListBase {
+                    points: self.points.as_slice(),
+                    triangles: self.triangles.as_slice(),
+                    edges,
+                };
+                Report::on(Kind::List, &base)
             }
         };
         self.clear();
