@@ -1,5 +1,6 @@
 // Values, as one word writes them.
 ghost use Rattle.std.specs.Prelude.{◌≡◌, ℕ, List, Option};
+ghost use Rattle.std.specs.List.{list_all};
 ghost use Rattle.line.specs.Numbers.{plain, whole_number, Decimal};
 ghost use Rattle.line.specs.Lines.{kind_of};
 
@@ -46,11 +47,17 @@ impl Word for f32 {
     ghost writes = { Decimal };
 
     fn of_word(word: &str) -> Option<f32> {
-        if !word.bytes().all(is_plain) {
+        if !all_plain(word) {
             return None;
         }
         word.parse::<f32>().ok().filter(|x| x.is_finite())
     }
+}
+
+fn all_plain(word: &str) -> bool
+    ensures { result ≡ list_all plain word.now }
+{
+    word.bytes().all(is_plain)
 }
 
 fn is_plain(byte: u8) -> bool
