@@ -2,60 +2,34 @@
 #![tactic(auto)]
 
 use order::reader::{Problem, Reader};
-use std::io::{BufRead, BufReader, BufWriter, ErrorKind, Write};
+use std::io::{self, BufRead, BufReader, BufWriter, ErrorKind, Write};
 use std::process::ExitCode;
-use std::{fmt, io};
-use wording::InWords;
+use thiserror::Error;
 
 // Why the program ends before its input does.
-#[derive(Drop)]
+#[derive(Debug, Drop, Error)]
+#[error(transparent)]
 enum Stop {
-    Order(Problem),
-    Stream(io::Error),
+    Order(#[from] Problem),
+    Stream(#[from] io::Error),
 }
 
-impl From<Problem> for Stop {
-    fn from(problem: Problem) -> Stop {
-        Stop::Order(problem)
+// A line that is no text is a problem of its order; any other error is one of the stream.
+fn unread(reader: &Reader, error: io::Error) -> Stop {
+    if error.kind() == ErrorKind::InvalidData {
+        return Stop::Order(reader.not_text());
     }
-}
-
-impl From<io::Error> for Stop {
-    fn from(error: io::Error) -> Stop {
-        Stop::Stream(error)
-    }
-}
-
-impl fmt::Display for Stop {
-    fn fmt<W: fmt::Write>(&self, f: &mut fmt::Formatter<W>) -> fmt::Result {
-        match self {
-            Stop::Order(problem) => {
-                let problem = InWords(*problem);
-                write!(f, "{problem}")
-            }
-            Stop::Stream(error) => write!(f, "{error}"),
-        }
-    }
+    Stop::Stream(error)
 }
 
 fn answer_all(rt: &HostRuntime) -> Result<(), Stop> {
     let mut out = BufWriter::new(rt.alloc(), rt.stdout())?;
     let mut reader = Reader::new(rt.alloc());
     for line in BufReader::new(rt.alloc(), rt.stdin())?.lines(rt.alloc()) {
-        match line {
-            Ok(text) => {
-                if let Some(report) = reader.read(text.as_str())? {
-                    let report = InWords(report);
-                    writeln!(out, "{report}")?;
-                    out.flush()?;
-                }
-            }
-            Err(error) => {
-                if error.kind() == ErrorKind::InvalidData {
-                    return Err(Stop::Order(reader.not_text()));
-                }
-                return Err(Stop::Stream(error));
-            }
+        let text = line.map_err(|error| unread(&reader, error))?;
+        if let Some(report) = reader.read(text.as_str())? {
+            writeln!(out, "{report}")?;
+            out.flush()?;
         }
     }
     reader.finish()?;

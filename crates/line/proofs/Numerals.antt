@@ -1,11 +1,11 @@
 -- What `parse` reads, in the words of `specs/Numbers.antt`.
-use Rattle.std.proofs.Common.{◌≡◌, ℕ, ◌+◌, ◌^◌, ◌<◌, true, ◌&&◌, ltb, List, length, get_or, drop, Some, Ok, Err, Result, sym, ap, ◌∙◌, ⊎_elim, add-one, drop-cons}
+use Rattle.std.proofs.Common.{◌≡◌, ℕ, ◌^◌, ◌<◌, true, ◌&&◌, ltb, List, length, Some, Ok, Err, Result, sym, ap, ◌∙◌, ⊎_elim}
 use Rattle.std.specs.Result.{result_ok}
 use Rattle.std.specs.Str.Parse.{IsNumeral, ParsesUnsigned, without_leading_plus, digits_value}
 use Rattle.std.specs.Str.{all_ascii_digits}
 use Rattle.std.proofs.lemmas.Str.Parse.{IsNumeralModel, numerals_by_value, tells_all_ascii_digits}
 use Rattle.std.proofs.lemmas.Bool.{cases_Bool, cond-true, cond-false, and_parts, and_from, ltb-true, lt-ltb}
-use Rattle.line.specs.Numbers.{whole_word, whole_number, plain, all_plain}
+use Rattle.line.specs.Numbers.{whole_word, whole_number}
 
 own : IsNumeralModel (λ ds. all_ascii_digits ds ≡ true) (digits_value 10)
 own = numerals_by_value _ tells_all_ascii_digits
@@ -26,7 +26,3 @@ read_whole k w (Err e) h =
     (λ t. absurd (h (whole_to k (without_leading_plus w) t)))
     (λ f. sym (cond-false (whole_word k (without_leading_plus w)) _ _ f))
     (cases_Bool (whole_word k (without_leading_plus w)))
-
--- one byte on
-pub plain_more : (cs : List ℕ) (i : ℕ) → i < length cs → all_plain (drop i cs) ≡ (plain (get_or cs i 0) && all_plain (drop (i + 1) cs))
-plain_more cs i h = rw (add-one, drop-cons cs i 0)

@@ -24,25 +24,34 @@ abbrev pub next_by : {X : Type 0} → (List ℕ → Option X) → Rest → Optio
 next_by f [] = None
 next_by f (w ∷ ws) = option_map (λ x. (x, ws)) (f w)
 
--- the next word is read as a decimal number
-abbrev pub NextDecimal : Rest → Option (Float × Rest) → Type 0
-NextDecimal [] r = r ≡ None
-NextDecimal (w ∷ ws) r = (x : Option Float) × Decimal w x × (r ≡ option_map (λ x. (x, ws)) x)
+-- what R allows to be read of the next word, and the words after it
+abbrev pub Next : {X : Type 0} → (List ℕ → Option X → Type 0) → Rest → Option (X × Rest) → Type 0
+Next R [] r = r ≡ None
+Next {X} R (w ∷ ws) r = (x : Option X) × R w x × (r ≡ option_map (λ x. (x, ws)) x)
 
 -- where there is a first part, what follows from it
 abbrev pub and_then : {X Y : Type 0} → Option X → (X → Option Y) → Option Y
 and_then None f = None
 and_then (Some x) f = f x
 
--- i, where no word is left
-abbrev pub last : Rest → Instruction → Option Instruction
-last ws i = cond (finished ws) (Some i) None
+-- x, where no word is left
+abbrev pub last : {X : Type 0} → Rest → X → Option X
+last ws x = cond (finished ws) (Some x) None
+
+-- what R allows to be read of the next word, where it is the last
+abbrev pub Last : {X : Type 0} → (List ℕ → Option X → Type 0) → Rest → Option X → Type 0
+Last {X} R ws r = (x : Option (X × Rest)) × Next R ws x × (r ≡ and_then x (λ x. last x.1 x.0))
 
 abbrev pub kind_of : List ℕ → Option Kind
 kind_of w =
     cond (bytes_eq w (codes "triangle")) (Some TriangleKind)
     (cond (bytes_eq w (codes "square")) (Some Square)
     (cond (bytes_eq w (codes "list")) (Some ListKind) None))
+
+abbrev pub kind_name : Kind → List ℕ
+kind_name TriangleKind = codes "triangle"
+kind_name Square = codes "square"
+kind_name ListKind = codes "list"
 
 abbrev pub read_base : Rest → Option Instruction
 read_base ws = and_then (next_by kind_of ws) (λ k. last k.1 (Base k.0))
@@ -66,9 +75,9 @@ read_check ws = last ws Check
 -- three decimal numbers, and no more words
 abbrev pub ReadsPoint : Rest → Option Instruction → Type 0
 ReadsPoint ws r =
-    (x : Option (Float × Rest)) × NextDecimal ws x × MatchOption x (r ≡ None) (λ x.
-    (y : Option (Float × Rest)) × NextDecimal x.1 y × MatchOption y (r ≡ None) (λ y.
-    (z : Option (Float × Rest)) × NextDecimal y.1 z × MatchOption z (r ≡ None) (λ z.
+    (x : Option (Float × Rest)) × Next Decimal ws x × MatchOption x (r ≡ None) (λ x.
+    (y : Option (Float × Rest)) × Next Decimal x.1 y × MatchOption y (r ≡ None) (λ y.
+    (z : Option (Float × Rest)) × Next Decimal y.1 z × MatchOption z (r ≡ None) (λ z.
     r ≡ last z.1 (Point (point x.0 y.0 z.0)))))
 
 -- the instruction that was read, or else what was expected

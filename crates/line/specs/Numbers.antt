@@ -1,11 +1,12 @@
 -- The numbers that words write.
-use Rattle.std.specs.Prelude.{◌≡◌, ℕ, ◌^◌, ◌<◌, Bool, true, false, cond, ◌&&◌, ◌||◌, List, [], ◌∷◌, length, pos, Some, None, Option, ◌==◌, nat_lt, Float}
+use Rattle.std.specs.Prelude.{◌≡◌, ℕ, ◌^◌, ◌<◌, Bool, true, false, cond, ◌&&◌, ◌||◌, List, length, pos, Some, None, Option, ◌==◌, nat_lt, Float}
 use Rattle.std.specs.Float.Ieee.{of_int}
 use Rattle.std.specs.Float.{float_is_finite, binary32}
 use Rattle.std.specs.Float.Parse.{is_float_text}
 use Rattle.std.specs.Str.Parse.{IsNumeral, without_leading_plus, digits_value}
 use Rattle.std.specs.Char.{is_ascii_digit}
 use Rattle.std.specs.Str.{all_ascii_digits}
+use Rattle.std.specs.List.{list_all}
 
 -- one digit or more, after a plus or none, that write a number of at most k bits
 abbrev pub whole_word : ℕ → List ℕ → Bool
@@ -18,13 +19,9 @@ whole_number k w = cond (whole_word k (without_leading_plus w)) (Some (digits_va
 abbrev pub plain : ℕ → Bool
 plain c = is_ascii_digit c || (c == 46 || (c == 43 || (c == 45 || (c == 101 || c == 69))))
 
-abbrev pub all_plain : List ℕ → Bool
-all_plain [] = true
-all_plain (c ∷ cs) = plain c && all_plain cs
-
 -- a text of a float that is not the word for an infinity or for what is no number
 abbrev pub decimal_text : List ℕ → Bool
-decimal_text w = all_plain w && is_float_text w
+decimal_text w = list_all plain w && is_float_text w
 
 -- x is what the text of a float is read as; a whole number of 32 bits is rounded once
 abbrev pub Rounds : List ℕ → Float → Type 0

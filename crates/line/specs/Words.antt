@@ -1,5 +1,6 @@
 -- The words of a line, byte by byte.
 use Rattle.std.specs.Prelude.{ℕ, Bool, true, false, cond, not, ◌||◌, List, [], ◌∷◌, ◌==◌}
+use Rattle.std.specs.List.{take_while}
 
 -- a space, a tab or a carriage return
 abbrev pub blank : ℕ → Bool
@@ -9,17 +10,12 @@ blank c = c == 32 || (c == 9 || c == 13)
 abbrev pub letter : ℕ → Bool
 letter c = not (blank c || c == 35)
 
--- the word with which a text begins, empty where it begins with none
-abbrev pub lead : List ℕ → List ℕ
-lead [] = []
-lead (c ∷ cs) = cond (letter c) (c ∷ lead cs) []
-
 -- the words of a text; of one that begins within a word, those after that word
 abbrev pub words_from : Bool → List ℕ → List (List ℕ)
 words_from within [] = []
 words_from within (c ∷ cs) =
     cond (blank c) (words_from false cs)
-    (cond (c == 35) [] (cond within (words_from true cs) ((c ∷ lead cs) ∷ words_from true cs)))
+    (cond (c == 35) [] (cond within (words_from true cs) (take_while letter (c ∷ cs) ∷ words_from true cs)))
 
 -- the words of a line, up to a comment
 abbrev pub words : List ℕ → List (List ℕ)

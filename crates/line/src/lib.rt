@@ -3,6 +3,6 @@
 
 pub mod expected;
 pub mod instruction;
-mod number;
 pub mod read;
+mod word;
 mod words;

@@ -1,5 +1,5 @@
 -- What the order that is being read holds, and what each instruction makes of it.
-use Rattle.std.specs.Prelude.{◌≡◌, ℕ, List, [], ◌∷◌, ◌++◌, length, Some, None, Ok, Err, vec_items, Option, Result}
+use Rattle.std.specs.Prelude.{◌≡◌, ℕ, List, [], ◌∷◌, ◌++◌, length, Some, None, Ok, Err, Option, Result}
 use Rattle.point.specs.declared.Vec3A.{Vec3A}
 use Rattle.shape.specs.declared.triangle.Triangle.{Triangle}
 use Rattle.shape.specs.Tables.{triangle_points, triangle_triangles, square_points, square_triangles}
@@ -11,7 +11,6 @@ use Rattle.line.specs.declared.expected.Expected.{Expected}
 use Rattle.line.specs.declared.expected.Expected.TheVariants.{BaseFirst, CheckFirst, CheckBeforeEnd, ListBase, OneEdges, EdgesFirst}
 use Rattle.order.specs.declared.fault.Fault.{Fault}
 use Rattle.order.specs.declared.fault.Fault.TheVariants.{Unread, Memory}
-use Rattle.order.specs.declared.draft.Draft.{Draft}
 use Rattle.order.specs.declared.report.Report.{Report}
 use Rattle.order.specs.Reports.{Reports}
 
@@ -21,9 +20,6 @@ pub record Sheet : Type 0 where
   pub edges : Option ℕ
   pub points : List Vec3A
   pub triangles : List Triangle
-
-abbrev pub sheet : Draft → Sheet
-sheet d = record { kind = d.kind; edges = d.edges; points = vec_items d.points; triangles = vec_items d.triangles }
 
 abbrev pub empty_sheet : Sheet
 empty_sheet = record { kind = None; edges = None; points = []; triangles = [] }
@@ -55,10 +51,10 @@ checkable (Some ListKind) (Some e) r = r
 
 -- what an instruction makes of a sheet, or what was expected in its place; after a check a new order begins
 abbrev pub takes : Instruction → Sheet → Result Sheet Expected
-takes (Base k) s = none_begun s.kind (Ok (record { kind = Some k; edges = s.edges; points = s.points; triangles = s.triangles }))
-takes (Edges e) s = list_only s.kind (no_edges s.edges (Ok (record { kind = s.kind; edges = Some e; points = s.points; triangles = s.triangles })))
-takes (Point p) s = list_only s.kind (Ok (record { kind = s.kind; edges = s.edges; points = s.points ++ p ∷ []; triangles = s.triangles }))
-takes (TriangleLine t) s = list_only s.kind (Ok (record { kind = s.kind; edges = s.edges; points = s.points; triangles = s.triangles ++ t ∷ [] }))
+takes (Base k) s = none_begun s.kind (Ok (record s { kind = Some k }))
+takes (Edges e) s = list_only s.kind (no_edges s.edges (Ok (record s { edges = Some e })))
+takes (Point p) s = list_only s.kind (Ok (record s { points = s.points ++ p ∷ [] }))
+takes (TriangleLine t) s = list_only s.kind (Ok (record s { triangles = s.triangles ++ t ∷ [] }))
 takes Check s = checkable s.kind s.edges (Ok empty_sheet)
 
 -- the answer where the input ends: no order is left unchecked
@@ -74,11 +70,10 @@ Grows (Point p) = Unit {0}
 Grows (TriangleLine t) = Unit {0}
 Grows Check = ⊥
 
--- the instruction is taken, or refused with what was expected, or finds no memory; the last two leave the sheet
-abbrev pub Taken : Sheet → Instruction → Result (Unit {0}) Fault → Sheet → Type 0
+-- the instruction is taken, or refused with what was expected, which leaves the sheet
+abbrev pub Taken : Sheet → Instruction → Result (Unit {0}) Expected → Sheet → Type 0
 Taken s i (Ok _) new = takes i s ≡ Ok new
-Taken s i (Err (Unread e)) new = (takes i s ≡ Err e) × (new ≡ s)
-Taken s i (Err Memory) new = Grows i × (new ≡ s)
+Taken s i (Err e) new = (takes i s ≡ Err e) × (new ≡ s)
 
 -- what is reported of the base that a sheet describes
 abbrev pub ReportOn : Option Kind → Option ℕ → List Vec3A → List Triangle → Report → Type 0
@@ -88,10 +83,9 @@ ReportOn (Some Square) e ps ts r = Reports Square (length square_points) 5 squar
 ReportOn (Some ListKind) None ps ts r = ⊥
 ReportOn (Some ListKind) (Some e) ps ts r = Reports ListKind (length ps) e ts r
 
-abbrev pub Checked : Sheet → Result Report Fault → Sheet → Type 0
+abbrev pub Checked : Sheet → Result Report Expected → Sheet → Type 0
 Checked s (Ok r) new = (takes Check s ≡ Ok new) × ReportOn s.kind s.edges s.points s.triangles r
-Checked s (Err (Unread e)) new = (takes Check s ≡ Err e) × (new ≡ s)
-Checked s (Err Memory) new = ⊥
+Checked s (Err e) new = (takes Check s ≡ Err e) × (new ≡ s)
 
 -- the instructions that are not answered
 abbrev pub Silent : Instruction → Type 0
@@ -101,7 +95,7 @@ Silent (Point p) = Unit {0}
 Silent (TriangleLine t) = Unit {0}
 Silent Check = ⊥
 
--- the instruction is taken and, if it is a check, answered; or it is refused, or finds no memory
+-- the instruction is taken and, if it is a check, answered; or it is refused, or finds no memory, which leave the sheet
 abbrev pub Answered : Sheet → Instruction → Result (Option Report) Fault → Sheet → Type 0
 Answered s i (Ok None) new = Silent i × (takes i s ≡ Ok new)
 Answered s i (Ok (Some r)) new = (i ≡ Check) × Checked s (Ok r) new

@@ -9,7 +9,7 @@ use Rattle.order.specs.declared.reader.Reader.{Reader}
 use Rattle.order.specs.declared.reader.Problem.{Problem}
 use Rattle.line.specs.Words.{words}
 use Rattle.line.specs.Lines.{Means}
-use Rattle.order.specs.Drafts.{Sheet, sheet, Answered}
+use Rattle.order.specs.Drafts.{Sheet, Answered}
 
 -- what a line that means m makes of a sheet: one that cannot be read, or has no word, leaves it
 abbrev pub Follows : Result (Option Instruction) Expected → Sheet → Result (Option Report) Fault → Sheet → Type 0
@@ -37,7 +37,7 @@ at_line n (Err f) = Err (problem_at n f)
 pub record Reads (old : Reader) (text : List ℕ) (r : Result (Option Report) Problem) (new : Reader) : Type 0 where
   pub counted : new.line ≡ next_line old.line
   pub answer : Result (Option Report) Fault
-  pub line : ReadsLine (sheet old.draft) text answer (sheet new.draft)
+  pub line : ReadsLine old.draft text answer new.draft
   pub told : r ≡ at_line new.line answer
 
 -- what was expected where the input ends is told with the line after the last

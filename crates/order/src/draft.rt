@@ -1,7 +1,7 @@
 // The order that is being read.
 ghost use Rattle.std.specs.Prelude.{◌≡◌, Ok};
-ghost use Rattle.line.specs.declared.instruction.Instruction.TheVariants.{Base, Edges, Point, Triangle as TriangleLine};
-ghost use Rattle.order.specs.Drafts.{sheet, empty_sheet, list_only, ended, Taken, Checked, Answered};
+ghost use Rattle.line.specs.declared.instruction.Instruction.TheVariants.{Base, Edges};
+ghost use Rattle.order.specs.Drafts.{empty_sheet, list_only, ended, Taken, Checked, Answered};
 
 use crate::fault::Fault;
 use crate::report::Report;
@@ -13,7 +13,9 @@ use shape::square_base::SquareBase;
 use shape::triangle::Triangle;
 use shape::triangle_base::TriangleBase;
 use std::alloc::Global;
+use std::marker::Model;
 
+// What was read of the order so far; contracts see it as a sheet.
 #[derive(Drop)]
 pub struct Draft {
     kind: Option<Kind>,
@@ -22,9 +24,18 @@ pub struct Draft {
     triangles: Vec<Triangle>,
 }
 
+impl Model for Draft {
+    ghost use Rattle.std.specs.Prelude.{vec_items};
+    ghost use Rattle.order.specs.Drafts.{Sheet};
+
+    ghost Value = { Sheet };
+
+    ghost view = { λ d. record { kind = d.kind; edges = d.edges; points = vec_items d.points; triangles = vec_items d.triangles } };
+}
+
 impl Draft {
     pub fn new(heap: Global) -> Draft
-        ensures { sheet result ≡ empty_sheet }
+        ensures { result ≡ empty_sheet }
     {
         Draft {
             kind: None,
@@ -34,11 +45,11 @@ impl Draft {
         }
     }
 
-    fn begin(&mut self, kind: Kind) -> Result<(), Fault>
-        ensures { Taken (sheet self.old) (Base kind) result (sheet self.new) }
+    fn begin(&mut self, kind: Kind) -> Result<(), Expected>
+        ensures { Taken self.old (Base kind) result self.new }
     {
         if self.kind.is_some() {
-            return Err(Fault::Unread(Expected::CheckFirst));
+            return Err(Expected::CheckFirst);
         }
         self.kind = Some(kind);
         Ok(())
@@ -55,53 +66,32 @@ impl Draft {
         }
     }
 
-    fn set_edges(&mut self, edges: usize) -> Result<(), Fault>
-        ensures { Taken (sheet self.old) (Edges edges) result (sheet self.new) }
+    fn set_edges(&mut self, edges: usize) -> Result<(), Expected>
+        ensures { Taken self.old (Edges edges) result self.new }
     {
         self.expect_list()?;
         if self.edges.is_some() {
-            return Err(Fault::Unread(Expected::OneEdges));
+            return Err(Expected::OneEdges);
         }
         self.edges = Some(edges);
         Ok(())
     }
 
-    fn add_point(&mut self, point: Vec3A) -> Result<(), Fault>
-        ensures { Taken (sheet self.old) (Point point) result (sheet self.new) }
-    {
-        self.expect_list()?;
-        self.points.push(point)?;
-        Ok(())
-    }
-
-    fn add_triangle(&mut self, triangle: Triangle) -> Result<(), Fault>
-        ensures { Taken (sheet self.old) (TriangleLine triangle) result (sheet self.new) }
-    {
-        self.expect_list()?;
-        self.triangles.push(triangle)?;
-        Ok(())
-    }
-
     // Answers, and makes room for the next order.
-    fn check(&mut self) -> Result<Report, Fault>
-        ensures { Checked (sheet self.old) result (sheet self.new) }
+    fn check(&mut self) -> Result<Report, Expected>
+        ensures { Checked self.old result self.new }
     {
-        let report = match (self.kind, self.edges) {
-            (None, _) => return Err(Fault::Unread(Expected::BaseFirst)),
-            (Some(Kind::Triangle), _) => Report::on(Kind::Triangle, &TriangleBase),
-            (Some(Kind::Square), _) => Report::on(Kind::Square, &SquareBase),
-            (Some(Kind::List), None) => return Err(Fault::Unread(Expected::EdgesFirst)),
-            (Some(Kind::List), Some(edges)) => {
-                let points = self.points.as_slice();
-                let triangles = self.triangles.as_slice();
-                Report::on(
-                    Kind::List,
-                    &ListBase {
-                        points,
-                        triangles,
-                        edges,
-                    },
-                )
+        let report = match self.kind.ok_or(Expected::BaseFirst)? {
+            Kind::Triangle => Report::on(Kind::Triangle, &TriangleBase),
+            Kind::Square => Report::on(Kind::Square, &SquareBase),
+            Kind::List => {
+                let edges = self.edges.ok_or(Expected::EdgesFirst)?;
+                let base = ListBase {
+                    points: self.points.as_slice(),
+                    triangles: self.triangles.as_slice(),
+                    edges,
+                };
+                Report::on(Kind::List, &base)
             }
         };
         self.clear();
@@ -109,7 +99,7 @@ impl Draft {
     }
 
     fn clear(&mut self)
-        ensures { sheet self.new ≡ empty_sheet }
+        ensures { self.new ≡ empty_sheet }
     {
         self.kind = None;
         self.edges = None;
@@ -119,13 +109,19 @@ impl Draft {
 
     // What the instruction makes of the order; a check is answered.
     pub fn take(&mut self, instruction: Instruction) -> Result<Option<Report>, Fault>
-        ensures { Answered (sheet self.old) instruction result (sheet self.new) }
+        ensures { Answered self.old instruction result self.new }
     {
         match instruction {
             Instruction::Base(kind) => self.begin(kind)?,
             Instruction::Edges(edges) => self.set_edges(edges)?,
-            Instruction::Point(point) => self.add_point(point)?,
-            Instruction::Triangle(triangle) => self.add_triangle(triangle)?,
+            Instruction::Point(point) => {
+                self.expect_list()?;
+                self.points.push(point)?;
+            }
+            Instruction::Triangle(triangle) => {
+                self.expect_list()?;
+                self.triangles.push(triangle)?;
+            }
             Instruction::Check => return Ok(Some(self.check()?)),
         }
         Ok(None)

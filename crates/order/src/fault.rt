@@ -4,15 +4,18 @@ ghost use Rattle.order.specs.declared.fault.Fault.TheVariants.{Unread, Memory};
 
 use line::expected::Expected;
 use std::alloc::AllocFailed;
+use thiserror::Error;
 
-#[derive(Clone, Copy)]
+#[derive(Clone, Copy, PartialEq, Eq, Debug, Error)]
 pub enum Fault {
     // the line cannot be read, or does not fit where it stands
+    #[error(transparent)]
     Unread(Expected),
-    // there is no memory for the order
+    #[error("there is no memory for the order")]
     Memory,
 }
 
+// Both conversions are by hand, since contracts read which fault `?` makes.
 impl From<Expected> for Fault {
     ghost from_gives = { λ e r. r ≡ Unread e };
 

@@ -6,3 +6,4 @@ pub mod draft;
 pub mod fault;
 pub mod reader;
 pub mod report;
+mod report_text;

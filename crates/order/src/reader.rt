@@ -2,7 +2,7 @@
 ghost use Rattle.std.specs.Prelude.{◌≡◌};
 ghost use Rattle.line.specs.declared.expected.Expected.TheVariants.{Text};
 ghost use Rattle.order.specs.declared.fault.Fault.TheVariants.{Unread};
-ghost use Rattle.order.specs.Drafts.{sheet, empty_sheet, ended};
+ghost use Rattle.order.specs.Drafts.{empty_sheet, ended};
 ghost use Rattle.order.specs.Reading.{ReadsLine, next_line, Reads, problem_at, expected_at};
 
 use crate::draft::Draft;
@@ -11,8 +11,10 @@ use crate::report::Report;
 use line::expected::Expected;
 use line::read::read_line;
 use std::alloc::Global;
+use thiserror::Error;
 
-// The lines read so far, and the order that they are part of.
+// The lines read so far, and the order that they are part of. It has no model: contracts name
+// both parts as they are.
 #[derive(Drop)]
 pub struct Reader {
     line: usize,
@@ -20,7 +22,8 @@ pub struct Reader {
 }
 
 // A fault, and the line at which it came.
-#[derive(Clone, Copy)]
+#[derive(Clone, Copy, PartialEq, Eq, Debug, Error)]
+#[error("line {line}: {fault}")]
 pub struct Problem {
     pub line: usize,
     pub fault: Fault,
@@ -29,7 +32,7 @@ pub struct Problem {
 impl Reader {
     pub fn new(heap: Global) -> Reader
         ensures lines { result.line ≡ 0 }
-        ensures order { sheet result.draft ≡ empty_sheet }
+        ensures order { result.draft ≡ empty_sheet }
     {
         Reader {
             line: 0,
@@ -41,46 +44,50 @@ impl Reader {
     pub fn read(&mut self, text: &str) -> Result<Option<Report>, Problem>
         ensures { Reads self.old text.now result self.new }
     {
-        self.line = self.line.saturating_add(1);
-        match follow(&mut self.draft, text) {
-            Ok(answer) => Ok(answer),
-            Err(fault) => Err(Problem {
-                line: self.line,
-                fault,
-            }),
-        }
+        self.line = self.next_line();
+        let line = self.line;
+        follow(&mut self.draft, text).map_err(|fault| Problem { line, fault })
     }
 
     // The next line is no text.
     pub fn not_text(&self) -> Problem
         ensures { result ≡ problem_at (next_line self.now.line) (Unread Text) }
     {
-        Problem {
-            line: self.line.saturating_add(1),
-            fault: Fault::Unread(Expected::Text),
-        }
+        self.unread(Expected::Text)
     }
 
     // The input ends after the lines that were read.
     pub fn finish(&self) -> Result<(), Problem>
         ensures { result ≡ expected_at (next_line self.now.line) (ended self.now.draft.kind) }
     {
-        match self.draft.expect_end() {
-            Ok(()) => Ok(()),
-            Err(expected) => Err(Problem {
-                line: self.line.saturating_add(1),
-                fault: Fault::Unread(expected),
-            }),
+        self.draft
+            .expect_end()
+            .map_err(|expected| self.unread(expected))
+    }
+
+    // What was expected at the next line.
+    fn unread(&self, expected: Expected) -> Problem
+        ensures { result ≡ problem_at (next_line self.now.line) (Unread expected) }
+    {
+        Problem {
+            line: self.next_line(),
+            fault: Fault::Unread(expected),
         }
+    }
+
+    fn next_line(&self) -> usize
+        ensures { result ≡ next_line self.now.line }
+    {
+        self.line.saturating_add(1)
     }
 }
 
 // What the line means is taken by the order.
 fn follow(draft: &mut Draft, text: &str) -> Result<Option<Report>, Fault>
-    ensures { ReadsLine (sheet draft.old) text.now result (sheet draft.new) }
+    ensures { ReadsLine draft.old text.now result draft.new }
 {
-    match read_line(text)? {
-        Some(instruction) => draft.take(instruction),
-        None => Ok(None),
-    }
+    let Some(instruction) = read_line(text)? else {
+        return Ok(None);
+    };
+    draft.take(instruction)
 }

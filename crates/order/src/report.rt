@@ -8,7 +8,7 @@ use refusal::Refusal;
 use shape::base_shape::BaseShape;
 
 // What was read of a base, and whether a mesh can be made over it.
-#[derive(Clone, Copy)]
+#[derive(Clone, Copy, PartialEq, Eq, Debug)]
 pub struct Report {
     pub kind: Kind,
     pub points: usize,

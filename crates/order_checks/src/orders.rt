@@ -4,7 +4,6 @@ use refusal::{Refusal, Unused};
 use std::alloc::Global;
 use std::fmt::Write;
 use std::test::Fail;
-use wording::InWords;
 
 // The answers to the orders in the text, and the problem that ends it.
 fn answers(heap: Global, text: &str) -> Result<String, Fail> {
@@ -13,19 +12,14 @@ fn answers(heap: Global, text: &str) -> Result<String, Fail> {
     for line in text.lines() {
         match reader.read(line) {
             Ok(None) => {}
-            Ok(Some(report)) => {
-                let report = InWords(report);
-                writeln!(out, "{report}")?;
-            }
+            Ok(Some(report)) => writeln!(out, "{report}")?,
             Err(problem) => {
-                let problem = InWords(problem);
                 write!(out, "{problem}")?;
                 return Ok(out);
             }
         }
     }
     if let Err(problem) = reader.finish() {
-        let problem = InWords(problem);
         write!(out, "{problem}")?;
     }
     Ok(out)
@@ -121,8 +115,8 @@ const CASES: [(&str, &str); 22] = [
 
 #[test]
 fn problems_are_told_with_their_line(rt: HostRuntime) -> Result<(), Fail> {
-    for case in &CASES {
-        assert_eq!(rt; answers(rt.alloc(), case.0)?.as_str(), case.1);
+    for (order, answer) in &CASES {
+        assert_eq!(rt; answers(rt.alloc(), order)?.as_str(), *answer);
     }
     Ok(())
 }
@@ -248,9 +242,8 @@ const SENTENCES: [(Refusal, &str); 18] = [
 
 #[test]
 fn each_refusal_has_its_sentence(rt: HostRuntime) -> Result<(), Fail> {
-    for case in &SENTENCES {
-        let refusal = case.0;
-        assert_eq!(rt; format!(in rt.alloc(); "{refusal}")?.as_str(), case.1);
+    for (refusal, sentence) in &SENTENCES {
+        assert_eq!(rt; format!(in rt.alloc(); "{refusal}")?.as_str(), *sentence);
     }
     Ok(())
 }
