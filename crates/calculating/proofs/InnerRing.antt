@@ -1,5 +1,5 @@
 -- The writes of a ring of the table, and its vertices as places of the points.
-use Rattle.std.proofs.Common.{◌≡◌, ℕ, zero, suc, ◌-◌, ◌*◌, ◌<◌, ◌≤◌, List, [], ◌∷◌, ◌++◌, length, get_or, take, sym, ap, ◌∙◌, subst, ap₂, inl, inr, arith}
+use Rattle.std.proofs.Common.{◌≡◌, ℕ, zero, suc, ◌-◌, ◌<◌, ◌≤◌, List, [], ◌∷◌, ◌++◌, length, get_or, sym, ap, ◌∙◌, subst, ap₂, inl, inr, arith}
 use Rattle.std.proofs.lemmas.List.{get_or_past}
 use Rattle.std.proofs.lemmas.Bool.{cases_lt}
 use lib.Ieee.{Float}
@@ -16,6 +16,7 @@ use Rattle.rings.specs.declared.ring_view.RingView.{RingView}
 use Rattle.rings.specs.declared.slice.Slice.{Slice}
 use Rattle.rings.specs.declared.slice.Slice.TheVariants.{Forward, Backward}
 use Rattle.rings.specs.Held.{held, held_view, Fits, ring_at}
+use Rattle.rings.specs.Sides.{side_len}
 use Rattle.rings.specs.Slices.{read, Forth}
 use Rattle.rings.specs.Views.{Shows, Whole, inside}
 use Rattle.rings.proofs.InRing.{from}
@@ -43,12 +44,12 @@ module _ (between : Vec3A → Vec3A → Float → Vec3A) (half : Vec3A → Vec3A
       ∙ ap₂ (λ x y. wrote between half (along m xs x y ∷ []) f) u v
   edge_writes (Backward s) p p' q q' m xs f t u v l h = absurd t
 
-  module _ (rs : List Ring) (d i : ℕ) (w : RingView) (s : Shows rs d i w) (h : Fits rs d (ring_at rs i).len (ring_at rs i).inner) where
+  module _ (rs : List Ring) (d i : ℕ) (w : RingView) (s : Shows rs d i w) (h : Fits rs d (side_len (ring_at rs i)) (ring_at rs i).inner) where
     abbrev L : ℕ
-    L = (ring_at rs i).len
+    L = side_len (ring_at rs i)
 
     abbrev side : Side → ℕ → ℕ
-    side k j = get_or (take (3 * L) (ring_at rs i).sides) (from L k j) 0
+    side k j = get_or (ring_at rs i).sides.items (from L k j) 0
 
     abbrev sides : List (Write Vec3A)
     sides =
@@ -126,12 +127,12 @@ short_at l n m i z e h =
     ]
 
 side_below :
-    (rs : List Ring) (d i n : ℕ) (w : RingView) → Shows rs d i w → 0 < n → Each (λ x. x < n) (take (3 * (ring_at rs i).len) (ring_at rs i).sides)
+    (rs : List Ring) (d i n : ℕ) (w : RingView) → Shows rs d i w → 0 < n → Each (λ x. x < n) (ring_at rs i).sides.items
     → (s : Side) (j : ℕ) → get_or (read (slice_at s w)) j 0 < n
 side_below rs d i n w h z e s j =
-    let L : ℕ = (ring_at rs i).len in
+    let L : ℕ = side_len (ring_at rs i) in
     short_at (read (slice_at s w)) n L j z (long_shown rs d i w h s)
-    (λ lt. subst (λ x. x < n) (sym (read_shown rs d i w h s j lt)) (each_at n (take (3 * L) (ring_at rs i).sides) z e (from L s j)))
+    (λ lt. subst (λ x. x < n) (sym (read_shown rs d i w h s j lt)) (each_at n (ring_at rs i).sides.items z e (from L s j)))
 
 pub ring_below :
     (rs : List Ring) (d i n : ℕ) (w : RingView) → 0 < d → Shows rs (d - 1) i w → 0 < n → Each (λ x. x < n) (vertices (held rs d (kind.More i)))
@@ -141,7 +142,7 @@ ring_below rs (suc d) i n w lt h z e =
     let q : suc d - 1 ≡ d = omega arith in
     let S : Shows rs d i w = subst (λ (x : ℕ). Shows rs x i w) q h in
     let g : Ring = ring_at rs i in
-    let sides : List ℕ = take (3 * g.len) g.sides in
+    let sides : List ℕ = g.sides.items in
     let within : Each (λ x. x < n) (vertices (held rs d g.inner)) = each_right n sides (vertices (held rs d g.inner)) e.1.1.1 in
     let here : Each (λ x. x < n) sides = each_left n sides (vertices (held rs d g.inner)) e.1.1.1 in
     record {
@@ -155,15 +156,15 @@ ring_below rs (suc d) i n w lt h z e =
       within = subst (λ (t : NumberedContents). Each (λ x. x < n) (vertices t)) (sym (held_shown rs d i w S)) within;
     }
 
-inward : (rs : List Ring) (d m i : ℕ) → Fits rs d m (kind.More i) → Fits rs (d - 1) (ring_at rs i).len (ring_at rs i).inner
+inward : (rs : List Ring) (d m i : ℕ) → Fits rs d m (kind.More i) → Fits rs (d - 1) (side_len (ring_at rs i)) (ring_at rs i).inner
 inward rs zero m i h = absurd h
-inward rs (suc d) m i h = let e : d ≡ suc d - 1 = omega arith in subst (λ (n : ℕ). Fits rs n (ring_at rs i).len (ring_at rs i).inner) e h.4
+inward rs (suc d) m i h = let e : d ≡ suc d - 1 = omega arith in subst (λ (n : ℕ). Fits rs n (side_len (ring_at rs i)) (ring_at rs i).inner) e h.4
 
 pub deep : (rs : List Ring) (d m i : ℕ) → Fits rs d m (kind.More i) → 0 < d
 deep rs zero m i h = absurd h
 deep rs (suc d) m i h = omega arith
 
-short : (rs : List Ring) (d m i : ℕ) → Fits rs d m (kind.More i) → (ring_at rs i).len ≤ 9
+short : (rs : List Ring) (d m i : ℕ) → Fits rs d m (kind.More i) → side_len (ring_at rs i) ≤ 9
 short rs zero m i h = absurd h
 short rs (suc d) m i h = h.3
 

@@ -6,6 +6,7 @@ use Rattle.rings.specs.declared.contents.Ring.{Ring}
 use Rattle.rings.specs.declared.contents.TriangleContents.{TriangleContents}
 use Rattle.rings.specs.declared.contents.TriangleContents.TheVariants as kind
 use Rattle.rings.specs.Held.{held_view, Fits, ring_at}
+use Rattle.rings.specs.Sides.{side_len}
 
 module _ (ab bc ca pq qr rp : ℕ → ℕ) where
   pub contents_agree :
@@ -32,7 +33,7 @@ module _ (ab bc ca pq qr rp : ℕ → ℕ) where
       cc
   contents_agree rs zero m (kind.More i) h f g k = absurd h
   contents_agree rs (suc d) m (kind.More i) h f g k =
-      let e : m ≡ 3 + (ring_at rs i).len = h.1 in
+      let e : m ≡ 3 + side_len (ring_at rs i) = h.1 in
       let u = f 1 (omega arith) in
       let v = g 1 (omega arith) in
       let w = k 1 (omega arith) in

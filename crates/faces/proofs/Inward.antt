@@ -6,6 +6,7 @@ use Rattle.rings.specs.declared.contents.TriangleContents.{TriangleContents}
 use Rattle.rings.specs.declared.contents.TriangleContents.TheVariants.{More}
 use Rattle.rings.specs.declared.ring_view.RingView.{RingView}
 use Rattle.rings.specs.Held.{Fits, held_view, ring_at}
+use Rattle.rings.specs.Sides.{side_len}
 use Rattle.rings.specs.Slices.{read}
 use Rattle.rings.specs.Views.{ring_of_view, table_ring, Whole, Shows}
 use Rattle.rings.proofs.Shown.{shown_inside, shown_agrees, whole_shown}
@@ -36,7 +37,7 @@ within w v m i is fits shows =
     let faces : inner_faces w ≡ own_faces v ++ inner_faces v =
     ap₂ (λ n t. contents_faces (held_view rs n t)) deep is
     ∙ sym (ap₂ (λ x y. x ++ y)
-    (ap (λ n. ring_faces n (ring_of_view v)) shows.ab_long ∙ faces_agree g.len (ring_of_view v) (table_ring rs d i) (shown_agrees rs d i v shows))
+    (ap (λ n. ring_faces n (ring_of_view v)) shows.ab_long ∙ faces_agree (side_len g) (ring_of_view v) (table_ring rs d i) (shown_agrees rs d i v shows))
     (ap contents_faces (shown_inside rs d i v shows))) in
     record {
       whole = whole_shown rs d i v shows f.3 f.4;

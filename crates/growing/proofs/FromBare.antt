@@ -1,5 +1,5 @@
 -- Making a mesh is subdividing bare tables.
-use Rattle.std.proofs.Common.{◌≡◌, ℕ, ◌*◌, ◌≤◌, List, [], length, take, replicate, sym, ap, ◌∙◌, subst, arith}
+use Rattle.std.proofs.Common.{◌≡◌, ℕ, ◌*◌, ◌≤◌, List, [], ◌∷◌, length, replicate, sym, refl, ap, ◌∙◌, subst, arith}
 use Rattle.std.proofs.lemmas.List.{get_or-replicate, length-replicate}
 use Rattle.pattern.specs.Step as numbered
 use Rattle.mesh.specs.Numbering.{grown, made}
@@ -8,20 +8,25 @@ use Rattle.rings.specs.declared.contents.Ring.{Ring}
 use Rattle.rings.specs.declared.contents.TriangleContents.{TriangleContents}
 use Rattle.rings.specs.declared.contents.TriangleContents.TheVariants as kind
 use Rattle.rings.specs.Held.{held, no_ring}
+use Rattle.rings.specs.Sides.{side_len}
 use Rattle.growing.specs.declared.edge.Edge.{Edge}
 use Rattle.growing.specs.Edges.{edge_in, edge_vertices, no_edge, OfLength}
 use Rattle.growing.specs.Placed.{Placed}
 use Rattle.growing.specs.Standing.{numbering, Stands, Bare}
 use Rattle.growing.proofs.ByPosition.{map_is}
 
+none : (l : List ℕ) → length l ≡ 0 → l ≡ []
+none [] h = refl
+none (x ∷ l) h = absurd (omega arith)
+
 pub bare_replicate :
-    (E T R : ℕ) (e : Edge) (g : Ring) → OfLength 0 e → length g.sides ≡ 27 → 3 * T ≤ R → Bare (replicate E e) (replicate T kind.None) (replicate R g)
+    (E T R : ℕ) (e : Edge) (g : Ring) → OfLength 0 e → length g.sides.items ≡ 3 * side_len g → 3 * T ≤ R → Bare (replicate E e) (replicate T kind.None) (replicate R g)
 bare_replicate E T R e g o w p =
     record {
       edges = λ i l. subst (OfLength 0) (sym (get_or-replicate E i e no_edge (omega (arith, length-replicate E e)))) o;
       contents = λ i l. get_or-replicate T i kind.None kind.None (omega (arith, length-replicate T kind.None));
       room = omega (arith, length-replicate T kind.None, length-replicate R g);
-      wide = λ i l. ap (λ (x : Ring). length x.sides) (get_or-replicate R i g no_ring (omega (arith, length-replicate R g))) ∙ w;
+      equal = λ i l. subst (λ (x : Ring). length x.sides.items ≡ 3 * side_len x) (sym (get_or-replicate R i g no_ring (omega (arith, length-replicate R g)))) w;
     }
 
 module _ (es : List Edge) (ts : List TriangleContents) (rs : List Ring) (b : Bare es ts rs) where
@@ -30,13 +35,13 @@ module _ (es : List Edge) (ts : List TriangleContents) (rs : List Ring) (b : Bar
       record {
         edges = b.edges;
         contents = λ i p.
-            subst (Placed rs (3 * i) 3 0) (sym (b.contents i p)) record { fits = omega arith; own = tt; room = omega (arith, b.room); wide = b.wide };
+            subst (Placed rs (3 * i) 3 0) (sym (b.contents i p)) record { fits = omega arith; own = tt; room = omega (arith, b.room); equal = b.equal };
       }
 
   bare_numbering : (P : ℕ) → numbering 0 P es ts rs ≡ bare P (length es) (length ts)
   bare_numbering P =
       let edges = map_is edge_vertices no_edge es (replicate (length es) []) [] (length-replicate (length es) [])
-      (λ i p. ap (λ n. take n (edge_in es i).points) (b.edges i p).len ∙ sym (get_or-replicate (length es) i [] [] p)) in
+      (λ i p. none (edge_vertices (edge_in es i)) (b.edges i p) ∙ sym (get_or-replicate (length es) i [] [] p)) in
       let contents = map_is (held rs 3) kind.None ts (replicate (length ts) numbered.None) numbered.None (length-replicate (length ts) numbered.None)
       (λ i p. ap (held rs 3) (b.contents i p) ∙ sym (get_or-replicate (length ts) i numbered.None numbered.None p)) in
       λ j. record { n = 0; total = P; edges = edges j; contents = contents j }

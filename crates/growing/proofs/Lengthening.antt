@@ -1,5 +1,5 @@
 -- Edges that become longer, one after another.
-use Rattle.std.proofs.Common.{◌≡◌, ℕ, ◌+◌, ◌*◌, ◌<◌, ◌≤◌, ◌≢◌, List, [], ◌∷◌, ◌++◌, map, length, take, drop, set, sym, ap, ◌∙◌, subst, ap₂, mul-add, arith, below_more}
+use Rattle.std.proofs.Common.{◌≡◌, ℕ, zero, suc, ◌+◌, ◌*◌, ◌<◌, ◌≤◌, ◌≢◌, List, [], ◌∷◌, ◌++◌, map, length, take, drop, set, sym, refl, ap, ◌∙◌, subst, ap₂, mul-add, arith, below_more, length-append}
 use Rattle.std.proofs.lemmas.List.{append_assoc, append-nil, take_more_set, take_all, drop_all, drop-set-lt, drop_more, drop-drop, get_or-drop, get_or-set_same, get_or-set_other, map_push}
 use Rattle.pattern.specs.Step.{range}
 use Rattle.pattern.proofs.Occurrences.{range-++}
@@ -7,17 +7,13 @@ use Rattle.mesh.specs.Numbering.{lengthened}
 use Rattle.growing.specs.declared.edge.Edge.{Edge}
 use Rattle.growing.specs.Edges.{edge_vertices, edge_in, len_at, no_edge, OfLength}
 
--- one vertex more is written behind those that were taken
-pub written_more :
-    (ps old : List ℕ) (n h k : ℕ) → n + k < length ps → take (n + k) ps ≡ old ++ range h k
-    → take (n + (k + 1)) (set ps (n + k) (h + k)) ≡ old ++ range h (k + 1)
-written_more ps old n h k p e =
-    let m : n + (k + 1) ≡ n + k + 1 = omega arith in
-    ap (λ i. take i (set ps (n + k) (h + k))) m
-    ∙ take_more_set ps (n + k) (h + k) p
-    ∙ ap (λ l. l ++ ((h + k) ∷ [])) e
-    ∙ append_assoc old (range h k) ((h + k) ∷ [])
-    ∙ ap (λ l. old ++ l) (sym (range-++ h k 1))
+pub length-range : (h k : ℕ) → length (range h k) ≡ k
+length-range h zero = refl
+length-range h (suc k) = ap suc (length-range (suc h) k)
+
+-- one vertex more in a row
+pub range-push : (h k v n : ℕ) → v ≡ h + k → n ≡ k + 1 → range h k ++ (v ∷ []) ≡ range h n
+range-push h k v n p q = ap (λ x. range h k ++ (x ∷ [])) p ∙ sym (range-++ h k 1) ∙ ap (range h) (sym q)
 
 -- the first i edges have taken the amount each, from h on, and h' is the next free vertex
 pub record LongerUpTo (es : List Edge) (amount h i : ℕ) (es' : List Edge) (h' : ℕ) : Type 0 where
@@ -35,9 +31,9 @@ module _ (es : List Edge) (amount h i : ℕ) (es' : List Edge) (h' : ℕ) (l : L
       ap (edge_in es') (sym z) ∙ sym (get_or-drop i es' 0 no_edge) ∙ ap (λ r. edge_in r 0) l.rest ∙ get_or-drop i es 0 no_edge ∙ ap (edge_in es) z
 
   pub longer_more :
-      (e : Edge) → amount ≤ 12 → length es' ≡ length es → i < length es' → edge_vertices e ≡ edge_vertices (edge_in es' i) ++ range h' amount → OfLength (len_at es' i + amount) e
+      (e : Edge) → amount ≤ 12 → length es' ≡ length es → i < length es' → edge_vertices e ≡ edge_vertices (edge_in es' i) ++ range h' amount
       → LongerUpTo es amount h (i + 1) (set es' i e) (h' + amount)
-  longer_more e few many p v n =
+  longer_more e few many p v =
       let q : i < i + 1 = omega arith in
       let r : i < length es = omega arith in
       let rest : List (List ℕ) = map edge_vertices (drop (i + 1) es) in
@@ -57,7 +53,9 @@ module _ (es : List Edge) (amount h i : ℕ) (es' : List Edge) (h' : ℕ) (l : L
             (λ j k.
             let ne : j ≢ i = omega arith in
             subst (λ (x : Edge). OfLength (len_at es j + amount) x) (sym (get_or-set_other es' i j e no_edge ne)) (l.long j k))
-            (subst (λ (x : Edge × Edge). OfLength (x.0.len + amount) x.1) (λ j. (still j, sym (get_or-set_same es' i e no_edge p) j)) n);
+            (ap (λ x. length (edge_vertices x)) (get_or-set_same es' i e no_edge p) ∙ ap length v
+            ∙ length-append (edge_vertices (edge_in es' i)) (range h' amount)
+            ∙ ap₂ (λ m k. m + k) (ap (λ x. length (edge_vertices x)) still) (length-range h' amount));
       }
 
   pub longer_all : length es' ≡ length es → length es ≤ i → map edge_vertices es' ≡ lengthened h amount (map edge_vertices es)

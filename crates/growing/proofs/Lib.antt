@@ -1,6 +1,5 @@
 mod ByPosition
 mod Lengthening
-mod RingWriting
 mod Unchanged
 mod RingSteps
 pub mod Counts

@@ -23,7 +23,7 @@ module _ (rs : List Ring) (b d m k : ℕ) (t : TriangleContents) (h : ℕ) (r : 
   moves_near j rs1 t1 h1 p v =
       let few : m + k ≤ 12 = r.few in
       let less : m + j ≤ 12 = omega arith in
-      omega (arith, v.next_is, after_near h j m (held rs d t) r.some less (held_of_count rs d m t r.placed.wide r.placed.fits))
+      omega (arith, v.next_is, after_near h j m (held rs d t) r.some less (held_of_count rs d m t r.placed.equal r.placed.fits))
 
   pub moves_ready : (j : ℕ) (rs1 : List Ring) (t1 : TriangleContents) (h1 : ℕ) → j < k → Moves rs b d m j t h rs1 t1 h1 → Ready rs1 b d (m + j) 1 t1 h1
   moves_ready j rs1 t1 h1 p v =

@@ -7,6 +7,7 @@ use Rattle.rings.specs.declared.contents.Ring.{Ring}
 use Rattle.rings.specs.declared.contents.TriangleContents.{TriangleContents}
 use Rattle.rings.specs.declared.contents.TriangleContents.TheVariants as kind
 use Rattle.rings.specs.Held.{Fits, ring_at}
+use Rattle.rings.specs.Sides.{side_len}
 use Rattle.growing.specs.declared.edge.Edge.{Edge}
 use Rattle.growing.specs.Edges.{edge_vertices}
 use Rattle.growing.specs.SteppingAll.{kind_at, all_held, AllPlaced, ReadyAll, MovesAll}
@@ -19,12 +20,12 @@ fits_few rs d m m' (kind.One x) p q f = absurd (omega arith)
 fits_few rs d m m' (kind.Three a b c) p q f = absurd (omega arith)
 fits_few rs d m m' (kind.Six a b c ab bc ca) p q f = absurd (omega arith)
 fits_few rs zero m m' (kind.More i) p q f = absurd f
-fits_few rs (suc d) m m' (kind.More i) p q f = let e : m ≡ 3 + (ring_at rs i).len = f.1 in absurd (omega arith)
+fits_few rs (suc d) m m' (kind.More i) p q f = let e : m ≡ 3 + side_len (ring_at rs i) = f.1 in absurd (omega arith)
 
 few_placed : (rs : List Ring) (m m' : ℕ) (ts : List TriangleContents) → m ≤ 1 → m' ≤ 1 → AllPlaced rs m ts → AllPlaced rs m' ts
 few_placed rs m m' ts p q a i l =
     let w = a i l in
-    record { fits = fits_few rs 3 m m' (kind_at ts i) p q w.fits; own = w.own; room = w.room; wide = w.wide }
+    record { fits = fits_few rs 3 m m' (kind_at ts i) p q w.fits; own = w.own; room = w.room; equal = w.equal }
 
 -- the count from which contents step: the first subdivision gives them nothing
 abbrev pub from : ℕ → ℕ

@@ -1,6 +1,6 @@
 -- What tables that stand hold: every edge's vertices are as many as the count, and every triangle's contents are of it.
-use Rattle.std.proofs.Common.{◌≡◌, ℕ, ◌<◌, ◌≤◌, List, [], map, length, ◌∙◌, arith}
-use Rattle.std.proofs.lemmas.List.{length-take-le, get_or-map}
+use Rattle.std.proofs.Common.{◌≡◌, ℕ, ◌<◌, List, [], map, length}
+use Rattle.std.proofs.lemmas.List.{get_or-map}
 use Rattle.shape.specs.Lists.{Each}
 use Rattle.pattern.specs.Step.{OfCount}
 use Rattle.mesh.specs.Numbering.{edge_of}
@@ -17,16 +17,13 @@ use Rattle.growing.proofs.Counts.{held_of_count}
 
 module _ (n : ℕ) (es : List Edge) (ts : List TriangleContents) (rs : List Ring) (s : Stands n es ts rs) where
   pub contents_of_count : Each (OfCount n) (all_held rs ts)
-  contents_of_count = each_is (held rs 3) kind.None (OfCount n) ts (λ i p. held_of_count rs 3 n (kind_at ts i) (s.contents i p).wide (s.contents i p).fits)
+  contents_of_count = each_is (held rs 3) kind.None (OfCount n) ts (λ i p. held_of_count rs 3 n (kind_at ts i) (s.contents i p).equal (s.contents i p).fits)
 
-  pub edge_long : n ≤ 12 → (i : ℕ) → i < length es → length (edge_vertices (edge_in es i)) ≡ n
-  edge_long few i p =
-      let e = s.edges i p in
-      let fit : (edge_in es i).len ≤ length (edge_in es i).points = omega (arith, e.len, e.wide) in
-      length-take-le (edge_in es i).len (edge_in es i).points fit ∙ e.len
+  pub edge_long : (i : ℕ) → i < length es → length (edge_vertices (edge_in es i)) ≡ n
+  edge_long = s.edges
 
-  pub edges_long : n ≤ 12 → Each (λ l. length l ≡ n) (map edge_vertices es)
-  edges_long few = each_is edge_vertices no_edge (λ l. length l ≡ n) es (edge_long few)
+  pub edges_long : Each (λ l. length l ≡ n) (map edge_vertices es)
+  edges_long = each_is edge_vertices no_edge (λ l. length l ≡ n) es s.edges
 
 -- an edge of the numbering is the edge of the table
 pub edge_of_lem : (n total i : ℕ) (es : List Edge) (ts : List TriangleContents) (rs : List Ring) → i < length es → edge_of (numbering n total es ts rs) i ≡ edge_vertices (edge_in es i)

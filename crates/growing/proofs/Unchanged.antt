@@ -1,12 +1,13 @@
 -- Contents are as they were where the rings that they own are.
-use Rattle.std.proofs.Common.{◌≡◌, ℕ, zero, suc, ◌+◌, ◌*◌, ◌<◌, ◌≤◌, List, length, take, sym, refl, ap, ◌∙◌, subst, arith}
+use Rattle.std.proofs.Common.{◌≡◌, ℕ, zero, suc, ◌+◌, ◌<◌, ◌≤◌, List, length, sym, refl, ap, ◌∙◌, subst, arith}
 use Rattle.pattern.specs.Step as numbered
 use Rattle.pattern.specs.Step.{NumberedContents}
 use Rattle.rings.specs.declared.contents.Ring.{Ring}
 use Rattle.rings.specs.declared.contents.TriangleContents.{TriangleContents}
 use Rattle.rings.specs.declared.contents.TriangleContents.TheVariants as kind
 use Rattle.rings.specs.Held.{held, Fits, Own, ring_at}
-use Rattle.growing.specs.Placed.{Wide, Placed}
+use Rattle.rings.specs.Sides.{side_len}
+use Rattle.growing.specs.Placed.{EqualSides, Placed}
 
 -- the rings b, b + 1, .., d of them, are the same in both tables
 abbrev pub Same : List Ring → List Ring → ℕ → ℕ → Type 0
@@ -27,8 +28,8 @@ module _ (rs rs' : List Ring) where
   held_same b zero (kind.More i) o e = absurd o
   held_same b (suc d) (kind.More i) o e =
       let r : Ring = ring_at rs i in
-      ap (λ (g : Ring). numbered.More g.a g.b g.c g.len (take (3 * g.len) g.sides) (held rs' d g.inner)) (first b d i o.0 e)
-      ∙ ap (λ (g : NumberedContents). numbered.More r.a r.b r.c r.len (take (3 * r.len) r.sides) g)
+      ap (λ (g : Ring). numbered.More g.a g.b g.c (side_len g) g.sides.items (held rs' d g.inner)) (first b d i o.0 e)
+      ∙ ap (λ (g : NumberedContents). numbered.More r.a r.b r.c (side_len r) r.sides.items g)
       (held_same (suc b) d r.inner o.1 (after_first b d e))
 
   own_same : (b d : ℕ) (t : TriangleContents) → Own rs b d t → Same rs rs' b d → Own rs' b d t
@@ -48,11 +49,11 @@ module _ (rs rs' : List Ring) where
   fits_same b zero m (kind.More i) l o e f = absurd o
   fits_same b (suc d) m (kind.More i) l o e f =
       let g : ring_at rs' i ≡ ring_at rs i = first b d i o.0 e in
-      let n : (ring_at rs' i).len ≡ (ring_at rs i).len = ap (λ (g : Ring). g.len) g in
-      let inner = fits_same (suc b) d (ring_at rs i).len (ring_at rs i).inner l o.1 (after_first b d e) f.4 in
-      (omega (arith, f.0), omega (arith, f.1), omega (arith, f.2), omega (arith, f.3), subst (λ (g : Ring). Fits rs' d g.len g.inner) (sym g) inner)
+      let n : side_len (ring_at rs' i) ≡ side_len (ring_at rs i) = ap side_len g in
+      let inner = fits_same (suc b) d (side_len (ring_at rs i)) (ring_at rs i).inner l o.1 (after_first b d e) f.4 in
+      (omega (arith, f.0), omega (arith, f.1), omega (arith, f.2), omega (arith, f.3), subst (λ (g : Ring). Fits rs' d (side_len g) g.inner) (sym g) inner)
 
-  pub placed_same : (b d m : ℕ) (t : TriangleContents) → length rs' ≡ length rs → Wide rs' → Same rs rs' b d → Placed rs b d m t → Placed rs' b d m t
+  pub placed_same : (b d m : ℕ) (t : TriangleContents) → length rs' ≡ length rs → EqualSides rs' → Same rs rs' b d → Placed rs b d m t → Placed rs' b d m t
   placed_same b d m t l w e p =
       let room = p.room in
-      record { fits = fits_same b d m t l p.own e p.fits; own = own_same b d t p.own e; room = omega arith; wide = w }
+      record { fits = fits_same b d m t l p.own e p.fits; own = own_same b d t p.own e; room = omega arith; equal = w }

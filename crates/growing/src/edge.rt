@@ -2,43 +2,41 @@
 ghost use Rattle.std.specs.Prelude.{◌≡◌, ℕ, ◌+◌, ◌*◌, ◌<◌, ◌≤◌, ◌++◌, map, length};
 ghost use Rattle.mesh.specs.Numbering.{lengthened};
 ghost use Rattle.pattern.specs.Step.{range};
-ghost use Rattle.growing.specs.Edges.{edge_in, edge_vertices, len_at, OfLength};
+ghost use Rattle.growing.specs.Edges.{edge_in, edge_vertices, len_at, no_edge, OfLength};
 
-// The vertices between the corners of an edge: the first `len` of `points`.
-#[derive(Clone, Copy)]
+use crate::vertices::push_range;
+use arrayvec::ArrayVec;
+
+// The vertices between the corners of an edge.
+#[derive(Drop)]
 pub struct Edge {
-    pub points: [u32; 12],
-    pub len: usize,
+    pub points: ArrayVec<u32, 12>,
 }
 
-// An edge that has no vertex yet.
-pub const EMPTY: Edge = Edge {
-    points: [0; 12],
-    len: 0,
-};
-
 impl Edge {
+    // An edge that has no vertex yet.
+    pub fn empty() -> Edge
+        ensures { result ≡ no_edge }
+    {
+        Edge {
+            points: ArrayVec::new(),
+        }
+    }
+
     // The vertices of the edge.
     pub fn vertices(&self) -> &[u32]
-        requires { self.now.len ≤ 12 }
         ensures are { result.now ≡ edge_vertices self.now }
-        ensures long { length result.now ≡ self.now.len }
+        ensures short { length result.now ≤ 12 }
     {
-        let all = &self.points[..];
-        &all[0..self.len]
+        &self.points
     }
 
     // Takes `amount` vertices more, from `next` on.
     fn lengthen(&mut self, amount: usize, next: u32)
-        requires { (self.old.len + amount ≤ 12) × (next + 12 ≤ 4294967295) }
-        ensures vertices { edge_vertices self.new ≡ edge_vertices self.old ++ range next amount }
-        ensures long { OfLength (self.old.len + amount) self.new }
+        requires { (length (edge_vertices self.old) + amount ≤ 12) × (next + 12 ≤ 4294967295) }
+        ensures { edge_vertices self.new ≡ edge_vertices self.old ++ range next amount }
     {
-        let at = self.len;
-        for k in 0..amount {
-            self.points[at + k] = next + k as u32;
-        }
-        self.len = at + amount;
+        push_range(&mut self.points, amount as u32, next);
     }
 }
 

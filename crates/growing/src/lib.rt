@@ -6,3 +6,4 @@ mod ring_growth;
 mod step;
 mod steps;
 pub mod subdivide;
+mod vertices;

@@ -2,7 +2,7 @@
 ghost use Rattle.std.specs.Prelude.{◌≡◌, ℕ, ◌+◌, ◌≤◌};
 ghost use Rattle.growing.specs.Stepping.{Ready, Steps};
 
-use crate::ring_growth::{longer_ring, new_ring};
+use crate::ring_growth::{lengthen_ring, new_ring};
 use rings::contents::{Ring, TriangleContents};
 
 // Six vertices, the new ones between the corners numbered from `next` on.
@@ -20,23 +20,24 @@ fn six(a: u32, b: u32, c: u32, next: u32) -> TriangleContents
     }
 }
 
-// One step of a ring: its sides become longer, and then its inner contents step.
+// One step of a ring: its inner contents step, and its sides become longer.
 #[cycle(step_step_ring)]
 fn step_ring(rings: &mut [Ring], i: usize, depth: usize, next: u32) -> u32
     requires { (m : ℕ) × Ready rings.old i depth m 1 (TriangleContents.More i) next }
     ensures { Steps rings.old i depth 1 (TriangleContents.More i) next rings.new (TriangleContents.More i) result }
 {
-    let mut ring = longer_ring(rings[i], next);
-    let mut inner = ring.inner;
+    let mut inner = rings[i].inner;
     let after = step(&mut inner, rings, i + 1, depth - 1, next + 3);
+    let ring = &mut rings[i];
+    lengthen_ring(ring, next);
     ring.inner = inner;
-    rings[i] = ring;
     after
 }
 
 // Changes the contents in place by their kind, where `next` is the next free vertex; the answer is the
 // next free one after that. The contents own `depth` rings from number `at` on, and the inner contents of
 // a ring own those after it.
+// No struct holds the parameters: each of them but the table is another one ring further in.
 #[cycle(step_step_ring)]
 pub(crate) fn step(
     contents: &mut TriangleContents,

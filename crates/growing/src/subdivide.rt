@@ -21,6 +21,7 @@ fn steps_for(n: usize, amount: usize) -> usize
 // Subdivides a mesh of `n` subdivisions by `amount`, where `total` is the next free vertex: each edge takes
 // as many vertices more, then each triangle's contents step. The answer is the new total. From bare tables,
 // at n = 0 and with the count of the points as total, this makes the mesh.
+// No struct holds the lists: the caller keeps them in three `Vec`s, and would make one for this call alone.
 pub fn subdivide_all(
     edges: &mut [Edge],
     contents: &mut [TriangleContents],

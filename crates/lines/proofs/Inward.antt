@@ -9,6 +9,7 @@ use Rattle.rings.specs.declared.contents.TriangleContents.{TriangleContents}
 use Rattle.rings.specs.declared.contents.TriangleContents.TheVariants as kind
 use Rattle.rings.specs.declared.ring_view.RingView.{RingView}
 use Rattle.rings.specs.Held.{ring_at, held_view, Fits}
+use Rattle.rings.specs.Sides.{side_len}
 use Rattle.rings.specs.Views.{edge_at, inside, ring_of_view, table_ring, Shows}
 use Rattle.rings.proofs.InRing.{at_side}
 use Rattle.lines.specs.ViewStrips.{own_strip, WholeView}
@@ -28,10 +29,10 @@ module _ (rs : List Ring) (d i : ℕ) (w : RingView) (shows : Shows rs d i w) wh
   abbrev ring : Ring
   ring = ring_at rs i
 
-  fits : Fits rs d ring.len ring.inner → Fits rs d ring.len w.inner
-  fits f = subst (λ (t : TriangleContents). Fits rs d ring.len t) (sym shows.inner_is) f
+  fits : Fits rs d (side_len ring) ring.inner → Fits rs d (side_len ring) w.inner
+  fits f = subst (λ (t : TriangleContents). Fits rs d (side_len ring) t) (sym shows.inner_is) f
 
-  whole : ring.len ≤ 9 → Fits rs d ring.len ring.inner → WholeView w
+  whole : side_len ring ≤ 9 → Fits rs d (side_len ring) ring.inner → WholeView w
   whole h f =
       let l = shows.ab_long in
       record {
@@ -41,31 +42,31 @@ module _ (rs : List Ring) (d i : ℕ) (w : RingView) (shows : Shows rs d i w) wh
         few = omega arith;
         goes =
             subst (λ (n : ℕ). Fits w.rings.now w.depth n w.inner) (sym l)
-            (subst (λ (n : ℕ). Fits w.rings.now n ring.len w.inner) (sym shows.depth_is)
-            (subst (λ (l : List Ring). Fits l d ring.len w.inner) (sym shows.rings_are) (fits f)));
+            (subst (λ (n : ℕ). Fits w.rings.now n (side_len ring) w.inner) (sym shows.depth_is)
+            (subst (λ (l : List Ring). Fits l d (side_len ring) w.inner) (sym shows.rings_are) (fits f)));
       }
 
   same_inside : inside w ≡ held_view rs d ring.inner
   same_inside =
       ap (λ l. held_view l w.depth w.inner) shows.rings_are ∙ ap₂ (λ n t. held_view rs n t) shows.depth_is shows.inner_is
 
-  edges : (s : Side) (j : ℕ) → j < ring.len → edge_at s (ring_of_view w) j ≡ edge_at s (table_ring rs d i) j
+  edges : (s : Side) (j : ℕ) → j < side_len ring → edge_at s (ring_of_view w) j ≡ edge_at s (table_ring rs d i) j
   edges Ab j h = ap (λ l. get_or l j 0) shows.ab_is ∙ at_side ring Ab j h
   edges Bc j h = ap (λ l. get_or l j 0) shows.bc_is ∙ at_side ring Bc j h
   edges Ca j h = ap (λ l. get_or l j 0) shows.ca_is ∙ at_side ring Ca j h
 
-  shown_strip : own_strip w ≡ ring_strip ring.len (table_ring rs d i)
+  shown_strip : own_strip w ≡ ring_strip (side_len ring) (table_ring rs d i)
   shown_strip =
       let r : pattern.Ring ℕ = table_ring rs d i in
       ap (λ n. ring_strip n (ring_of_view w)) shows.ab_long
-      ∙ strip_agree (ring_of_view w) r ring.len
-      (view_agrees ring.len w r.a r.b r.c r.ab r.bc r.ca (held_view rs d ring.inner) shows.a_is same_inside edges)
+      ∙ strip_agree (ring_of_view w) r (side_len ring)
+      (view_agrees (side_len ring) w r.a r.b r.c r.ab r.bc r.ca (held_view rs d ring.inner) shows.a_is same_inside edges)
 
   shown : (m : ℕ) → Fits rs (suc d) m (kind.More i) → Turn rs (suc d) (kind.More i) d w
   shown m f =
       record {
         whole_ring = whole f.3 f.4;
-        goes = (ring.len, fits f.4);
+        goes = (side_len ring, fits f.4);
         strips = ap₂ (λ l t. l ∷ strips_inside rs d t) (sym shown_strip) (sym shows.inner_is);
       }
 

@@ -1,5 +1,4 @@
 pub mod InRing
-pub mod Opening
 pub mod OfCount
 pub mod Agree
 pub mod Shown

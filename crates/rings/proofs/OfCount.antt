@@ -6,6 +6,7 @@ use Rattle.rings.specs.declared.contents.Ring.{Ring}
 use Rattle.rings.specs.declared.contents.TriangleContents.{TriangleContents}
 use Rattle.rings.specs.declared.contents.TriangleContents.TheVariants as kind
 use Rattle.rings.specs.Held.{held_view, Fits, ring_at}
+use Rattle.rings.specs.Sides.{side_len}
 
 pub sized : (rs : List Ring) (d m : ℕ) (t : TriangleContents) → Fits rs d m t → Sized m (held_view rs d t)
 sized rs d zero kind.None h = sized_0
@@ -15,7 +16,7 @@ sized rs d m (kind.One x) h = subst (λ (n : ℕ). Sized n (one x)) (sym h) size
 sized rs d m (kind.Three a b c) h = subst (λ (n : ℕ). Sized n (three a b c)) (sym h) sized_3
 sized rs d m (kind.Six a b c ab bc ca) h = subst (λ (n : ℕ). Sized n (six a b c ab bc ca)) (sym h) sized_4
 sized rs zero m (kind.More i) h = absurd h
-sized rs (suc d) m (kind.More i) h = around (ring_at rs i).len h.1 h.2 (sized rs d (ring_at rs i).len (ring_at rs i).inner h.4)
+sized rs (suc d) m (kind.More i) h = around (side_len (ring_at rs i)) h.1 h.2 (sized rs d (side_len (ring_at rs i)) (ring_at rs i).inner h.4)
   where
     around :
         {a b c : ℕ} {ab bc ca : ℕ → ℕ} {t : Contents ℕ} (L : ℕ) → m ≡ 3 + L → 2 ≤ L → Sized L t

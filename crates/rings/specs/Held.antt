@@ -1,14 +1,15 @@
 -- The contents that a table of rings holds, and which rings they own.
-use Rattle.std.specs.Prelude.{◌≡◌, ℕ, zero, suc, ◌+◌, ◌*◌, ◌<◌, ◌≤◌, List, [], length, take, slice_index_or}
+use Rattle.std.specs.Prelude.{◌≡◌, ℕ, zero, suc, ◌+◌, ◌<◌, ◌≤◌, List, [], length, slice_index_or}
 use Rattle.pattern.specs.Ring.{Contents}
 use Rattle.pattern.specs.Step as numbered
 use Rattle.pattern.specs.Step.{NumberedContents, view}
 use Rattle.rings.specs.declared.contents.Ring.{Ring}
 use Rattle.rings.specs.declared.contents.TriangleContents.{TriangleContents}
 use Rattle.rings.specs.declared.contents.TriangleContents.TheVariants as kind
+use Rattle.rings.specs.Sides.{side_len}
 
 abbrev pub no_ring : Ring
-no_ring = record { a = 0; b = 0; c = 0; sides = []; len = 0; inner = kind.None }
+no_ring = record { a = 0; b = 0; c = 0; sides = record { items = [] }; inner = kind.None }
 
 -- the ring that a number names
 abbrev pub ring_at : List Ring → ℕ → Ring
@@ -23,7 +24,7 @@ held rs d (kind.Six a b c ab bc ca) = numbered.Six a b c ab bc ca
 held rs zero (kind.More i) = numbered.None
 held rs (suc d) (kind.More i) =
     let g : Ring = ring_at rs i in
-    numbered.More g.a g.b g.c g.len (take (3 * g.len) g.sides) (held rs d g.inner)
+    numbered.More g.a g.b g.c (side_len g) g.sides.items (held rs d g.inner)
 
 -- the same, read by position
 abbrev pub held_view : List Ring → ℕ → TriangleContents → Contents ℕ
@@ -37,8 +38,8 @@ Fits rs d m (kind.Three a b c) = m ≡ 3
 Fits rs d m (kind.Six a b c ab bc ca) = m ≡ 4
 Fits rs zero m (kind.More i) = ⊥
 Fits rs (suc d) m (kind.More i) =
-    (i < length rs) × (m ≡ 3 + (ring_at rs i).len) × (2 ≤ (ring_at rs i).len) × ((ring_at rs i).len ≤ 9)
-    × Fits rs d (ring_at rs i).len (ring_at rs i).inner
+    (i < length rs) × (m ≡ 3 + side_len (ring_at rs i)) × (2 ≤ side_len (ring_at rs i)) × (side_len (ring_at rs i) ≤ 9)
+    × Fits rs d (side_len (ring_at rs i)) (ring_at rs i).inner
 
 -- the contents own the rings b, b + 1, .., d of them: their ring, if any, is b, and its inner contents own the rest
 abbrev pub Own : List Ring → ℕ → ℕ → TriangleContents → Type 0
@@ -49,10 +50,10 @@ Own rs b d (kind.Six x y z xy yz zx) = Unit {0}
 Own rs b zero (kind.More i) = ⊥
 Own rs b (suc d) (kind.More i) = (i ≡ b) × Own rs (suc b) d (ring_at rs i).inner
 
--- a ring that contents name is in the table, and its sides are short enough
+-- a ring that contents name is in the table
 abbrev pub Names : List Ring → ℕ → TriangleContents → Type 0
 Names rs d kind.None = Unit {0}
 Names rs d (kind.One x) = Unit {0}
 Names rs d (kind.Three a b c) = Unit {0}
 Names rs d (kind.Six a b c ab bc ca) = Unit {0}
-Names rs d (kind.More i) = (0 < d) × (i < length rs) × ((ring_at rs i).len ≤ 9)
+Names rs d (kind.More i) = (0 < d) × (i < length rs)

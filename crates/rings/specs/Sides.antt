@@ -1,5 +1,5 @@
--- The three sides of a ring of the table: one list, each side len vertices.
-use Rattle.std.specs.Prelude.{ℕ, ◌*◌, List, take, drop}
+-- The three sides of a ring of the table: one list, each side a third of it.
+use Rattle.std.specs.Prelude.{ℕ, ◌*◌, ◌/◌, List, length, take, drop}
 use Rattle.rings.specs.declared.contents.Ring.{Ring}
 use Rattle.rings.specs.declared.contents.Side.{Side}
 use Rattle.rings.specs.declared.contents.Side.TheVariants.{Ab, Bc, Ca}
@@ -10,5 +10,9 @@ side_number Ab = 0
 side_number Bc = 1
 side_number Ca = 2
 
+-- how many vertices a side has
+abbrev pub side_len : Ring → ℕ
+side_len g = length g.sides.items / 3
+
 abbrev pub side_of : Ring → Side → List ℕ
-side_of g s = take g.len (drop (side_number s * g.len) g.sides)
+side_of g s = take (side_len g) (drop (side_number s * side_len g) g.sides.items)

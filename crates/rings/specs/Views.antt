@@ -1,5 +1,5 @@
 -- What a ring view reads.
-use Rattle.std.specs.Prelude.{◌≡◌, ℕ, ◌+◌, ◌*◌, ◌<◌, ◌≤◌, List, length, take, slice_index}
+use Rattle.std.specs.Prelude.{◌≡◌, ℕ, ◌+◌, ◌<◌, ◌≤◌, List, length, slice_index}
 use Rattle.pattern.specs.Place.{Patch}
 use Rattle.pattern.specs.Ring as pattern
 use Rattle.pattern.specs.Ring.{Contents, ring_of, positions}
@@ -8,7 +8,7 @@ use Rattle.rings.specs.declared.contents.Side.{Side}
 use Rattle.rings.specs.declared.contents.Side.TheVariants.{Ab, Bc, Ca}
 use Rattle.rings.specs.declared.ring_view.RingView.{RingView}
 use Rattle.rings.specs.Held.{ring_at, held, held_view, Fits, Names}
-use Rattle.rings.specs.Sides.{side_of}
+use Rattle.rings.specs.Sides.{side_len, side_of}
 use Rattle.rings.specs.Slices.{read, Forth, Reads}
 
 -- the contents of a view
@@ -35,9 +35,13 @@ inner_at Ab r = r.AB
 inner_at Bc r = r.BC
 inner_at Ca r = r.CA
 
+-- a ring that the contents name is in the table
+abbrev pub Named : RingView → Type 0
+Named w = Names w.rings.now w.depth w.inner
+
 -- contents with n positions or more on each side
 abbrev pub Opens : ℕ → RingView → Type 0
-Opens n w = Names w.rings.now w.depth w.inner × (n ≤ positions (inside w))
+Opens n w = Named w × (n ≤ positions (inside w))
 
 -- three readings of m numbers each, and contents that go with them
 pub record Whole (m : ℕ) (w : RingView) : Type 0 where
@@ -51,8 +55,9 @@ pub record Whole (m : ℕ) (w : RingView) : Type 0 where
 abbrev pub table_ring : List Ring → ℕ → ℕ → pattern.Ring ℕ
 table_ring rs d i =
     let g : Ring = ring_at rs i in
-    let sides : List ℕ = take (3 * g.len) g.sides in
-    ring_of g.a g.b g.c (λ j. slice_index sides j) (λ j. slice_index sides (g.len + j)) (λ j. slice_index sides (g.len + g.len + j))
+    let L : ℕ = side_len g in
+    let sides : List ℕ = g.sides.items in
+    ring_of g.a g.b g.c (λ j. slice_index sides j) (λ j. slice_index sides (L + j)) (λ j. slice_index sides (L + L + j))
     (held_view rs d g.inner)
 
 -- w shows ring i of the table, its sides read forward
@@ -66,9 +71,9 @@ pub record Shows (rs : List Ring) (d i : ℕ) (w : RingView) : Type 0 where
   pub ab_forth : Forth w.ab
   pub bc_forth : Forth w.bc
   pub ca_forth : Forth w.ca
-  pub ab_long : length (read w.ab) ≡ (ring_at rs i).len
-  pub bc_long : length (read w.bc) ≡ (ring_at rs i).len
-  pub ca_long : length (read w.ca) ≡ (ring_at rs i).len
+  pub ab_long : length (read w.ab) ≡ side_len (ring_at rs i)
+  pub bc_long : length (read w.bc) ≡ side_len (ring_at rs i)
+  pub ca_long : length (read w.ca) ≡ side_len (ring_at rs i)
   pub inner_is : w.inner ≡ (ring_at rs i).inner
   pub rings_are : w.rings.now ≡ rs
   pub depth_is : w.depth ≡ d

@@ -1,6 +1,10 @@
 // The contents of a triangle, as they stand in a plain table of rings.
-ghost use Rattle.std.specs.Prelude.{◌≡◌, ◌≤◌, length};
-ghost use Rattle.rings.specs.Sides.{side_of};
+ghost use Rattle.std.specs.Prelude.{◌≡◌, ◌*◌, ◌≤◌, length};
+ghost use Rattle.pattern.specs.Ring.{pick};
+ghost use Rattle.rings.specs.Held.{no_ring};
+ghost use Rattle.rings.specs.Sides.{side_len, side_number, side_of};
+
+use arrayvec::ArrayVec;
 
 // What lies inside a triangle's edges, by kind. `More` names a ring of the table.
 #[derive(Clone, Copy)]
@@ -31,39 +35,66 @@ pub enum Side {
     Ca,
 }
 
-// A ring: its corners, its three sides of `len` vertices each, one behind another, and what lies inside.
-#[derive(Clone, Copy)]
+impl Side {
+    // The one of the three that goes with the side.
+    pub fn pick<T: Copy>(self, ab: T, bc: T, ca: T) -> T
+        ensures { result ≡ pick (side_number self) ab bc ca }
+    {
+        match self {
+            Side::Ab => ab,
+            Side::Bc => bc,
+            Side::Ca => ca,
+        }
+    }
+
+    // The corner where the side starts, and the one where it ends.
+    pub fn ends(self, a: u32, b: u32, c: u32) -> (u32, u32)
+        ensures { result ≡ (pick (side_number self) a b c, pick (side_number self) b c a) }
+    {
+        (self.pick(a, b, c), self.pick(b, c, a))
+    }
+}
+
+// A ring: its corners, its three sides, as long as each other, one behind another, and what lies inside.
+#[derive(Drop)]
 pub struct Ring {
     pub a: u32,
     pub b: u32,
     pub c: u32,
-    pub sides: [u32; 27],
-    pub len: usize,
+    pub sides: ArrayVec<u32, 27>,
     pub inner: TriangleContents,
 }
 
-// A ring that nothing names yet.
-pub const BLANK: Ring = Ring {
-    a: 0,
-    b: 0,
-    c: 0,
-    sides: [0; 27],
-    len: 0,
-    inner: TriangleContents::None,
-};
-
 impl Ring {
+    // A ring that nothing names yet.
+    pub fn blank() -> Ring
+        ensures { result ≡ no_ring }
+    {
+        Ring {
+            a: 0,
+            b: 0,
+            c: 0,
+            sides: ArrayVec::new(),
+            inner: TriangleContents::None,
+        }
+    }
+
+    // How many vertices a side has, without the corners.
+    pub fn side_len(&self) -> usize
+        ensures is { result ≡ side_len self.now }
+        ensures short { result ≤ 9 }
+        ensures within { 3 * result ≤ length self.now.sides.items }
+    {
+        self.sides.len() / 3
+    }
+
     // The vertices of one side, without the corners.
     pub fn side(&self, side: Side) -> &[u32]
-        requires { self.now.len ≤ 9 }
         ensures is { result.now ≡ side_of self.now side }
-        ensures long { length result.now ≡ self.now.len }
+        ensures long { length result.now ≡ side_len self.now }
     {
-        let all = &self.sides[..];
-        match side {
-            Side::Ab => &all[0..self.len],
-            Side::Bc => &all[self.len..2 * self.len],
-            Side::Ca => &all[2 * self.len..3 * self.len],
-        }
+        let len = self.side_len();
+        let start = side.pick(0, len, 2 * len);
+        &self.sides[start..start + len]
     }
 }

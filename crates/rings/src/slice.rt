@@ -14,8 +14,7 @@ impl<'a> Slice<'a> {
         ensures { result ≡ length (read self.now) }
     {
         match self {
-            Slice::Forward(s) => s.len(),
-            Slice::Backward(s) => s.len(),
+            Slice::Forward(s) | Slice::Backward(s) => s.len(),
         }
     }
 
@@ -24,8 +23,9 @@ impl<'a> Slice<'a> {
         ensures { result ≡ slice_index (read self.now) k }
     {
         match self {
-            Slice::Forward(s) => { if k < s.len() { s[k] } else { 0 } }
-            Slice::Backward(s) => { if k < s.len() { s[s.len() - 1 - k] } else { 0 } }
+            Slice::Forward(s) if k < s.len() => s[k],
+            Slice::Backward(s) if k < s.len() => s[s.len() - 1 - k],
+            _ => 0,
         }
     }
 }

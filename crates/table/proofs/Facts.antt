@@ -2,7 +2,6 @@
 use Rattle.std.proofs.Common.{◌≡◌, ℕ, zero, suc, ◌<◌, ◌≤◌, List, [], ◌∷◌, length, get_or, sym, refl, ap, ◌∙◌, subst, inl, inr, arith}
 use lib.ListN.{length-map}
 use Rattle.growing.specs.declared.edge.Edge.{Edge}
-use Rattle.growing.specs.Edges.{edge_in, edge_vertices, len_at}
 use Rattle.growing.specs.Standing.{numbering}
 use Rattle.growing.proofs.Tables.{edge_long, edge_of_lem}
 use Rattle.growing.specs.Standing.{WithinLimits}
@@ -54,14 +53,8 @@ module _ (P : ℕ) (ts : List Triangle) (fs : List Forward) (es : List Edge) (cs
   pub edges_below : (i : ℕ) → i < length ts → EdgesBelow (length es) (triangle_at ts i)
   edges_below i h = let b = in_range i h in (b.ab<E, b.bc<E, b.ca<E)
 
-  pub short : (e : ℕ) → e < length es → len_at es e ≤ 12
-  short e h = let l : len_at es e ≡ n = (S.stands.edges e h).len in let f = few in omega arith
-
-  pub edge_is : (e : ℕ) → e < length es → edge_vertices (edge_in es e) ≡ edge_of (numbering n total es cs rs) e
-  edge_is e h = sym (edge_of_lem n total e es cs rs h)
-
   pub edge_many : (e : ℕ) → e < length es → length (edge_of (numbering n total es cs rs) e) ≡ n
-  edge_many e h = ap length (edge_of_lem n total e es cs rs h) ∙ edge_long n es cs rs S.stands few e h
+  edge_many e h = ap length (edge_of_lem n total e es cs rs h) ∙ edge_long n es cs rs S.stands e h
 
   pub goes : (i : ℕ) → i < length ts → Fits rs 3 n (kind_at cs i)
   goes i h = let k : i < length cs = let e = contents_many in omega arith in (S.stands.contents i k).fits

@@ -3,17 +3,18 @@ use Rattle.std.proofs.Common.{ℕ, ◌*◌, List, length}
 use native.Mathlib.Bridge.{le_prop}
 use native.Mathlib.Nat.{ℕ_set}
 use Rattle.growing.specs.declared.edge.Edge.{Edge}
-use Rattle.growing.specs.Edges.{edge_in, OfLength}
+use Rattle.growing.specs.Edges.{edge_in, edge_vertices, OfLength}
 use Rattle.growing.specs.Placed.{Placed}
 use Rattle.growing.specs.SteppingAll.{kind_at}
 use Rattle.growing.specs.Standing.{Stands, WithinLimits}
 use Rattle.rings.specs.declared.contents.Ring.{Ring}
 use Rattle.rings.specs.declared.contents.TriangleContents.{TriangleContents}
 use Rattle.rings.specs.Held.{ring_at}
+use Rattle.rings.specs.Sides.{side_len}
 use Rattle.rings.proofs.Propositions.{fits_prop, own_prop}
 
 of_length_prop : (n : ℕ) (e : Edge) → IsProp (OfLength n e)
-of_length_prop n e = λ x y j. record { len = ℕ_set e.len n x.len y.len j; wide = ℕ_set (length e.points) 12 x.wide y.wide j }
+of_length_prop n e = ℕ_set (length (edge_vertices e)) n
 
 placed_prop : (rs : List Ring) (b d m : ℕ) (t : TriangleContents) → IsProp (Placed rs b d m t)
 placed_prop rs b d m t = λ x y j.
@@ -21,7 +22,7 @@ placed_prop rs b d m t = λ x y j.
       fits = fits_prop rs d m t x.fits y.fits j;
       own = own_prop rs b d t x.own y.own j;
       room = le_prop x.room y.room j;
-      wide = λ i h. ℕ_set (length (ring_at rs i).sides) 27 (x.wide i h) (y.wide i h) j;
+      equal = λ i h. ℕ_set (length (ring_at rs i).sides.items) (3 * side_len (ring_at rs i)) (x.equal i h) (y.equal i h) j;
     }
 
 pub stands_prop : (n : ℕ) (es : List Edge) (cs : List TriangleContents) (rs : List Ring) → IsProp (Stands n es cs rs)

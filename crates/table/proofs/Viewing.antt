@@ -1,16 +1,18 @@
 -- The view of a triangle of a sound table shows the triangle.
-use Rattle.std.proofs.Common.{◌≡◌, ℕ, zero, suc, ◌<◌, ◌≤◌, Bool, List, length, sym, ap, ◌∙◌, subst, ap₂, arith}
+use Rattle.std.proofs.Common.{◌≡◌, ℕ, zero, suc, ◌<◌, ◌≤◌, Bool, false, List, length, get_or, vec_items, vec_len, sym, ap, ◌∙◌, subst, ap₂, arith}
+use Rattle.std.proofs.lemmas.List.{get_or_read}
 use mathlib.Core.Logic.{∥∥₁_elim}
 use native.Mathlib.Bridge.{le_prop}
 use native.Mathlib.Nat.{ℕ_set}
 use Rattle.growing.specs.declared.edge.Edge.{Edge}
-use Rattle.growing.specs.Edges.{edge_in, edge_vertices, len_at}
+use Rattle.growing.specs.Edges.{edge_in, edge_vertices}
 use Rattle.growing.specs.Standing.{numbering}
 use Rattle.growing.specs.SteppingAll.{kind_at}
 use Rattle.growing.proofs.Tables.{edge_of_lem}
 use Rattle.mesh.specs.Numbering.{edge_of}
 use Rattle.rings.specs.declared.contents.Ring.{Ring}
 use Rattle.rings.specs.declared.contents.TriangleContents.{TriangleContents}
+use Rattle.rings.specs.declared.contents.TriangleContents.TheVariants as kind
 use Rattle.rings.specs.declared.ring_view.RingView.{RingView}
 use Rattle.rings.specs.declared.slice.Slice.{Slice}
 use Rattle.rings.specs.Held.{held, Fits}
@@ -19,10 +21,24 @@ use Rattle.rings.specs.Views.{ShowsPatch}
 use Rattle.rings.proofs.Propositions.{fits_prop}
 use Rattle.shape.specs.declared.triangle.Triangle.{Triangle}
 use Rattle.table.specs.declared.forward.Forward.{Forward}
-use Rattle.table.specs.Forwards.{triangle_at, EdgesBelow}
+use Rattle.table.specs.Forwards.{no_triangle, triangle_at, EdgesBelow}
+use Rattle.table.specs.declared.table.Table.{Table}
+use Rattle.table.specs.Tables as Tables
 use Rattle.table.specs.Sound.{Sound}
-use Rattle.table.specs.Views.{Viewable, Views, patch_at, forward_at}
+use Rattle.table.specs.Views.{patch_at, forward_at}
 use Rattle.table.proofs.Facts as facts
+
+-- w reads a triangle x as f says, with the contents k inside
+pub record Views (x : Triangle) (f : Forward) (k : TriangleContents) (es : List Edge) (rs : List Ring) (w : RingView) : Type 0 where
+  pub a_is : w.a ≡ x.a
+  pub b_is : w.b ≡ x.b
+  pub c_is : w.c ≡ x.c
+  pub on_ab : Reads (edge_vertices (edge_in es x.ab)) f.ab w.ab
+  pub on_bc : Reads (edge_vertices (edge_in es x.bc)) f.bc w.bc
+  pub on_ca : Reads (edge_vertices (edge_in es x.ca)) f.ca w.ca
+  pub inner_is : w.inner ≡ k
+  pub rings_are : w.rings.now ≡ rs
+  pub depth_is : w.depth ≡ 3
 
 reads_same : (l m : List ℕ) (b : Bool) (s : Slice) → l ≡ m → Reads l b s → Reads m b s
 reads_same l m b s e h = subst (λ (x : List ℕ). Reads x b s) e h
@@ -42,12 +58,6 @@ module _ (P : ℕ) (ts : List Triangle) (fs : List Forward) (es : List Edge) (cs
     ∥∥₁_elim S le_prop (λ s. (facts.edges_below P ts fs es cs rs n total s i h).2),
   )
 
-  edges_short : (e : ℕ) → e < length es → len_at es e ≤ 12
-  edges_short e l = ∥∥₁_elim S le_prop (λ s. facts.short P ts fs es cs rs n total s e l)
-
-  pub viewable : Viewable ts fs es cs i
-  viewable = record { triangle = h; readings = forward_within; contents = contents_within; edges = edges_within; short = edges_short }
-
   long : (e : ℕ) → e < length es → length (edge_of (numbering n total es cs rs) e) ≡ n
   long e l = ∥∥₁_elim S (ℕ_set (length (edge_of (numbering n total es cs rs) e)) n) (λ s. facts.edge_many P ts fs es cs rs n total s e l)
 
@@ -65,7 +75,7 @@ module _ (P : ℕ) (ts : List Triangle) (fs : List Forward) (es : List Edge) (cs
   same : (e : ℕ) → e < length es → edge_vertices (edge_in es e) ≡ edge_of (numbering n total es cs rs) e
   same e l = sym (edge_of_lem n total e es cs rs l)
 
-  pub shows : (w : RingView) → Views ts fs es cs rs i w → ShowsPatch n (edge_of (numbering n total es cs rs)) (patch_at ts fs cs rs i) w
+  shows : (w : RingView) → Views (triangle_at ts i) (forward_at fs i) (kind_at cs i) es rs w → ShowsPatch n (edge_of (numbering n total es cs rs)) (patch_at ts fs cs rs i) w
   shows w v =
       let t : Triangle = triangle_at ts i in
       let f : Forward = forward_at fs i in
@@ -84,20 +94,48 @@ module _ (P : ℕ) (ts : List Triangle) (fs : List Forward) (es : List Edge) (cs
             (subst (λ (d : ℕ). Fits rs d n w.inner) (sym v.depth_is) (subst (λ (x : TriangleContents). Fits rs 3 n x) (sym v.inner_is) fits));
       }
 
--- the same of equal lists
-pub viewable_same :
-    (ts ts' : List Triangle) (fs fs' : List Forward) (es es' : List Edge) (cs cs' : List TriangleContents) (i : ℕ) → ts' ≡ ts → fs' ≡ fs
-    → es' ≡ es → cs' ≡ cs → Viewable ts fs es cs i → Viewable ts' fs' es' cs' i
-viewable_same ts ts' fs fs' es es' cs cs' i p q r s v =
-    subst (λ (l : List Triangle). Viewable l fs' es' cs' i) (sym p)
-    (subst (λ (l : List Forward). Viewable ts l es' cs' i) (sym q)
-    (subst (λ (l : List Edge). Viewable ts fs l cs' i) (sym r) (subst (λ (l : List TriangleContents). Viewable ts fs es l i) (sym s) v)))
+-- triangle i of a table, as its lists are read
+module _ (t : Table) (i : ℕ) (h : i < vec_len t.triangles) where
+  within : i < length (vec_items t.triangles)
+  within = omega (arith, h, t.triangles.ok.0)
 
-pub views_same :
-    (ts ts' : List Triangle) (fs fs' : List Forward) (es es' : List Edge) (cs cs' : List TriangleContents) (rs rs' : List Ring) (i : ℕ) (w : RingView)
-    → ts' ≡ ts → fs' ≡ fs → es' ≡ es → cs' ≡ cs → rs' ≡ rs → Views ts' fs' es' cs' rs' i w → Views ts fs es cs rs i w
-views_same ts ts' fs fs' es es' cs cs' rs rs' i w p q r s u v =
-    subst (λ (l : List Triangle). Views l fs es cs rs i w) p
-    (subst (λ (l : List Forward). Views ts' l es cs rs i w) q
-    (subst (λ (l : List Edge). Views ts' fs' l cs rs i w) r
-    (subst (λ (l : List TriangleContents). Views ts' fs' es' l rs i w) s (subst (λ (l : List Ring). Views ts' fs' es' cs' l i w) u v))))
+  pub readings : i < vec_len t.forward
+  readings =
+      omega (
+        arith,
+        t.forward.ok.0,
+        forward_within (vec_len t.points) (vec_items t.triangles) (vec_items t.forward) (vec_items t.edges) (vec_items t.contents)
+            (vec_items t.rings) t.n t.total t.sound i within,
+      )
+
+  pub contents : i < vec_len t.contents
+  contents =
+      omega (
+        arith,
+        t.contents.ok.0,
+        contents_within (vec_len t.points) (vec_items t.triangles) (vec_items t.forward) (vec_items t.edges) (vec_items t.contents)
+            (vec_items t.rings) t.n t.total t.sound i within,
+      )
+
+  module _ (x : Triangle) (e : x ≡ get_or (vec_items t.triangles) i x) where
+    is : x ≡ triangle_at (vec_items t.triangles) i
+    is = get_or_read (vec_items t.triangles) i x within e no_triangle
+
+    pub edges : EdgesBelow (vec_len t.edges) x
+    edges =
+        subst (EdgesBelow (vec_len t.edges)) (sym is)
+        (subst (λ (m : ℕ). EdgesBelow m (triangle_at (vec_items t.triangles) i)) (sym t.edges.ok.0)
+        (edges_within (vec_len t.points) (vec_items t.triangles) (vec_items t.forward) (vec_items t.edges) (vec_items t.contents) (vec_items t.rings) t.n
+        t.total t.sound i within))
+
+    pub shows_read :
+        (f : Forward) (k : TriangleContents) (w : RingView) → f ≡ get_or (vec_items t.forward) i f → k ≡ get_or (vec_items t.contents) i k
+        → Views x f k (vec_items t.edges) (vec_items t.rings) w → ShowsPatch t.n (edge_of (Tables.numbering t)) (Tables.patch_at t i) w
+    shows_read f k w p q v =
+        let fs = vec_items t.forward in
+        let cs = vec_items t.contents in
+        let p' : f ≡ forward_at fs i
+        = get_or_read fs i f (omega (arith, readings, t.forward.ok.0)) p (record { ab = false; bc = false; ca = false }) in
+        let q' : k ≡ kind_at cs i = get_or_read cs i k (omega (arith, contents, t.contents.ok.0)) q kind.None in
+        shows (vec_len t.points) (vec_items t.triangles) fs (vec_items t.edges) cs (vec_items t.rings) t.n t.total t.sound i within w
+        (subst (λ (y : Triangle × Forward × TriangleContents). Views y.0 y.1 y.2 (vec_items t.edges) (vec_items t.rings) w) (λ j. (is j, p' j, q' j)) v)

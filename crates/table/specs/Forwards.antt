@@ -1,5 +1,7 @@
--- Which way each triangle reads its edges, and what marks of the edges reached tell of it.
-use Rattle.std.specs.Prelude.{◌≡◌, ℕ, ◌<◌, Bool, false, not, List, [], ◌∷◌, length, nat_eq, slice_index_or}
+-- Which way each triangle reads its edges, and what the edges seen tell of it.
+use Rattle.std.specs.Prelude.{◌≡◌, ℕ, ◌<◌, List, [], ◌∷◌, nat_eq, slice_index_or}
+use Rattle.std.specs.BTreeSet.{BTreeSet, contains}
+use Rattle.std.specs.Ordering.{nat_cmp}
 use Rattle.mesh.specs.Faces.{forward}
 use Rattle.pattern.specs.Sides.{among}
 use Rattle.shape.specs.declared.triangle.Triangle.{Triangle}
@@ -16,17 +18,13 @@ forwards_from seen (t ∷ ts) = forward_of seen t ∷ forwards_from (t.ca ∷ t.
 abbrev pub forwards : List Triangle → List Forward
 forwards ts = forwards_from [] ts
 
--- the edges marked done are those seen
-abbrev pub Marks : List ℕ → List Bool → Type 0
-Marks seen done = (e : ℕ) → e < length done → slice_index_or done e false ≡ among nat_eq e seen
+-- the set has the edges seen
+abbrev pub Has : BTreeSet ℕ → List ℕ → Type 0
+Has set seen = (e : ℕ) → contains nat_cmp set e ≡ among nat_eq e seen
 
--- one edge more, of which r tells whether it was not seen yet
-abbrev pub Reaches : List Bool → ℕ → Bool → List Bool → Type 0
-Reaches old e r new = (seen : List ℕ) → Marks seen old → (r ≡ not (among nat_eq e seen)) × Marks (e ∷ seen) new
-
--- a triangle's three edges more, of which r tells the same
-abbrev pub Tells : List Bool → Triangle → Forward → List Bool → Type 0
-Tells old t r new = (seen : List ℕ) → Marks seen old → (r ≡ forward_of seen t) × Marks (t.ca ∷ t.bc ∷ t.ab ∷ seen) new
+-- r are the readings of one triangle more, whose edges are seen from then on
+abbrev pub Tells : BTreeSet ℕ → Triangle → Forward → BTreeSet ℕ → Type 0
+Tells old t r new = (seen : List ℕ) → Has old seen → (r ≡ forward_of seen t) × Has new (t.ca ∷ t.bc ∷ t.ab ∷ seen)
 
 abbrev pub EdgesBelow : ℕ → Triangle → Type 0
 EdgesBelow n t = (t.ab < n) × (t.bc < n) × (t.ca < n)
@@ -36,6 +34,3 @@ no_triangle = record { a = 0; b = 0; c = 0; ab = 0; bc = 0; ca = 0 }
 
 abbrev pub triangle_at : List Triangle → ℕ → Triangle
 triangle_at ts i = slice_index_or ts i no_triangle
-
-abbrev pub AllEdgesBelow : ℕ → List Triangle → Type 0
-AllEdgesBelow n ts = (i : ℕ) → i < length ts → EdgesBelow n (triangle_at ts i)

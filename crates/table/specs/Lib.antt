@@ -1,3 +1,4 @@
+pub mod Lists
 pub mod Forwards
 pub mod Sound
 pub mod Views

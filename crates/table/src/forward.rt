@@ -1,10 +1,10 @@
 // Which way each triangle reads its edges.
-ghost use Rattle.std.specs.Prelude.{◌≡◌, ℕ, ◌<◌, ◌≤◌, length, IfOk};
-ghost use Rattle.shape.specs.Lists.{Each};
-ghost use Rattle.table.specs.Forwards.{Reaches, Tells, EdgesBelow, AllEdgesBelow, forwards};
+ghost use Rattle.std.specs.Prelude.{◌≡◌, IfOk};
+ghost use Rattle.table.specs.Forwards.{Tells, forwards};
 
 use shape::triangle::Triangle;
 use std::alloc::{AllocError, Global};
+use std::collections::BTreeSet;
 
 // Whether a triangle reads its edges forward: those that it is the first to use.
 #[derive(Clone, Copy)]
@@ -14,36 +14,25 @@ pub struct Forward {
     pub ca: bool,
 }
 
-// Whether the edge was not reached before. From now on it is.
-fn reach(done: &mut [bool], edge: usize) -> bool
-    requires { edge < length done.old }
-    ensures { Reaches done.old edge result done.new }
+// The readings of the next triangle, where `seen` has the edges used before.
+fn forward_of(seen: &mut BTreeSet<usize>, t: &Triangle) -> Result<Forward, AllocError>
+    ensures { IfOk result (λ f. Tells seen.old t.now f seen.new) }
 {
-    let first = !done[edge];
-    done[edge] = true;
-    first
-}
-
-// The readings of the next triangle.
-fn forward_of(done: &mut [bool], t: &Triangle) -> Forward
-    requires { EdgesBelow (length done.old) t.now }
-    ensures { Tells done.old t.now result done.new }
-{
-    let ab = reach(done, t.ab);
-    let bc = reach(done, t.bc);
-    let ca = reach(done, t.ca);
-    Forward { ab, bc, ca }
+    Ok(Forward {
+        ab: seen.insert(t.ab)?,
+        bc: seen.insert(t.bc)?,
+        ca: seen.insert(t.ca)?,
+    })
 }
 
 // The readings of all triangles, in their order.
 pub(crate) fn forwards_of(heap: Global, triangles: &[Triangle]) -> Result<Vec<Forward>, AllocError>
-    requires { AllEdgesBelow 96 triangles.now }
     ensures { IfOk result (λ v. v.items ≡ forwards triangles.now) }
 {
-    let mut done = [false; 96];
+    let mut seen = BTreeSet::new(heap);
     let mut list = Vec::with_capacity(heap, triangles.len())?;
     for t in triangles {
-        list.push(forward_of(&mut done, t))?;
+        list.push(forward_of(&mut seen, t)?)?;
     }
     Ok(list)
 }

@@ -12,25 +12,24 @@ use refusal::Refusal;
 // The most subdivisions that a mesh has.
 pub const MAX_SUBDIVISIONS: usize = 12;
 
-// As many subdivisions more.
-pub(crate) fn grow(table: &mut Table, amount: usize)
-    requires { table.old.n + amount ≤ 12 }
-    ensures numbered { numbering table.new ≡ grown amount (numbering table.old) }
-    ensures based { SameBase table.old table.new }
-{
-    let total = subdivide_all(
-        &mut table.edges,
-        &mut table.contents,
-        &mut table.rings,
-        table.n,
-        amount,
-        table.total,
-    );
-    table.total = total;
-    table.n += amount;
-}
-
 impl Table {
+    // As many subdivisions more.
+    pub(crate) fn grow(&mut self, amount: usize)
+        requires { self.old.n + amount ≤ 12 }
+        ensures numbered { numbering self.new ≡ grown amount (numbering self.old) }
+        ensures based { SameBase self.old self.new }
+    {
+        self.total = subdivide_all(
+            &mut self.edges,
+            &mut self.contents,
+            &mut self.rings,
+            self.n,
+            amount,
+            self.total,
+        );
+        self.n += amount;
+    }
+
     // As many subdivisions more, unless that makes more than 12.
     pub fn subdivide(&mut self, amount: usize) -> Result<(), Refusal>
         ensures answers { result ≡ answered_or (too_often (numbering self.old) amount) tt }
@@ -44,7 +43,7 @@ impl Table {
                 amount,
             });
         }
-        grow(self, amount);
+        self.grow(amount);
         Ok(())
     }
 }

@@ -1,23 +1,35 @@
 // The lists of a base, copied into a mesh's table.
-ghost use Rattle.std.specs.Prelude.{◌≡◌, IfOk};
+ghost use Rattle.std.specs.Prelude.{◌≡◌, List, length, IfOk};
+ghost use Rattle.table.specs.Lists.{AnswersFrom};
 
 use point::Vec3A;
 use shape::base_shape::BaseShape;
 use shape::triangle::Triangle;
 use std::alloc::{AllocError, Global};
 
-pub(crate) fn points_of<S: BaseShape>(heap: Global, base: &S) -> Result<Vec<Vec3A>, AllocError>
-    ensures { IfOk result (λ v. v.items ≡ S.BaseShape.points base.now) }
+// The list of so many elements that `at` answers from.
+fn listed<T: Drop, F: Fn(usize) -> Option<T>>(
+    heap: Global,
+    count: usize,
+    at: F,
+) -> Result<Vec<T>, AllocError>
+    requires { F.IsAlwaysCallable at }
+    ensures { (l : List T) → length l ≡ count → AnswersFrom (F.post at) l → IfOk result (λ v. v.items ≡ l) }
 {
-    let count = base.point_count();
     let mut list = Vec::with_capacity(heap, count)?;
     for i in 0..count {
-        match base.point(i) {
-            Some(p) => list.push(p)?,
+        match at(i) {
+            Some(x) => list.push(x)?,
             None => return Ok(list),
         }
     }
     Ok(list)
+}
+
+pub(crate) fn points_of<S: BaseShape>(heap: Global, base: &S) -> Result<Vec<Vec3A>, AllocError>
+    ensures { IfOk result (λ v. v.items ≡ S.BaseShape.points base.now) }
+{
+    listed(heap, base.point_count(), |i| base.point(i))
 }
 
 pub(crate) fn triangles_of<S: BaseShape>(
@@ -26,13 +38,5 @@ pub(crate) fn triangles_of<S: BaseShape>(
 ) -> Result<Vec<Triangle>, AllocError>
     ensures { IfOk result (λ v. v.items ≡ S.BaseShape.triangles base.now) }
 {
-    let count = base.triangle_count();
-    let mut list = Vec::with_capacity(heap, count)?;
-    for i in 0..count {
-        match base.triangle(i) {
-            Some(t) => list.push(t)?,
-            None => return Ok(list),
-        }
-    }
-    Ok(list)
+    listed(heap, base.triangle_count(), |i| base.triangle(i))
 }

@@ -1,21 +1,11 @@
-use Rattle.std.proofs.Common.{◌+◌, ◌≤◌, set, sym, subst, rules}
-use Rattle.rings.specs.declared.contents.TriangleContents.{TriangleContents}
-use Rattle.rings.specs.declared.contents.TriangleContents.TheVariants as kind
+use Rattle.std.proofs.Common.{◌+◌, ◌-◌, ◌≤◌, length, sym, subst, arith, rules}
+use Rattle.rings.specs.declared.contents.Ring.{Ring}
 use Rattle.rings.specs.Held.{ring_at}
-use Rattle.growing.specs.Stepping.{Steps}
-use Rattle.growing.proofs.RingSteps.{six_moves, more_ready, some_deep, more_moves}
+use Rattle.rings.specs.Sides.{side_len}
+use Rattle.growing.specs.RingGrowth.{LongerRing}
+use Rattle.growing.specs.Stepping.{Ready}
+use Rattle.growing.proofs.RingSteps.{few_sides, first_read, inner_steps, more_moves, more_ready, some_deep, then_read}
 use Rattle.growing.proofs.step.+step_step_ring.Goals as goal
-
-pub step-returns-in-Six : goal.step-returns-in-Six
-step-returns-in-Six t c =
-    let rs = c.args.rings.now in
-    let b = c.args.at in
-    let d = c.args.depth in
-    let h = c.args.next in
-    let x = c.in-Six in
-    let g = c.new_ring.result in
-    subst (λ (y : TriangleContents). Steps rs b d 1 y h (set rs b g) (kind.More b) (h + 4)) (sym x.is)
-    (λ m. six_moves rs b d m x.a x.b x.c x.ab x.bc x.ca h g c.new_ring.ensures)
 
 pub step_ring-step-after-requires : goal.step_ring-step-after-requires
 step_ring-step-after-requires t c =
@@ -23,11 +13,31 @@ step_ring-step-after-requires t c =
     let i = c.args.i in
     let d = c.args.depth in
     let h = c.args.next in
+    let L = side_len (ring_at rs i) in
+    let some : 1 ≤ d = some_deep rs i d c.requires.0 h c.requires.1 in
+    let e = first_read rs i d c.requires.0 h c.index-rings-i.result c.requires.1 in
+    (search rules, (L, subst (λ (g : Ring). Ready rs (i + 1) (d - 1) L 1 g.inner (h + 3)) (sym e) (more_ready rs i d c.requires.0 h c.requires.1)))
+
+pub step_ring-lengthen_ring-requires : goal.step_ring-lengthen_ring-requires
+step_ring-lengthen_ring-requires t c =
+    let rs = c.args.rings.now in
     let m = c.requires.0 in
-    let some : 1 ≤ d = some_deep rs i d m h c.requires.1 in
-    (search rules, ((ring_at rs i).len, more_ready rs i d m h c.longer_ring-ring.result c.longer_ring-ring.ensures c.requires.1))
+    let r = c.requires.1 in
+    let e = then_read rs c.step-after.new.rings c.args.i c.args.depth m c.args.next c.step-after.result c.step-after.new.contents
+    c.index-rings-i.result c.step-after.ensures r c.index-rings-i-2.result in
+    (subst (λ (g : Ring). length g.sides.items ≤ 24) (sym e) (few_sides rs c.args.i c.args.depth m c.args.next r), let f = r.free in omega arith)
 
 pub step_ring-returns : goal.step_ring-returns
-step_ring-returns t c m =
-    more_moves c.args.rings.now c.step-after.new.rings c.args.i c.args.depth m c.args.next c.step-after.result
-    c.longer_ring-ring.result c.step-after.new.contents c.longer_ring-ring.ensures c.step-after.ensures
+step_ring-returns t c m r =
+    let rs = c.args.rings.now in
+    let rs1 = c.step-after.new.rings in
+    let i = c.args.i in
+    let d = c.args.depth in
+    let h = c.args.next in
+    let after = c.step-after.result in
+    let inner = c.step-after.new.contents in
+    let x = c.index-rings-i.result in
+    let e = then_read rs rs1 i d m h after inner x c.step-after.ensures r c.index-rings-i-2.result in
+    more_moves rs rs1 i d m h after c.lengthen_ring.new.ring inner
+    (subst (λ (g : Ring). LongerRing g h c.lengthen_ring.new.ring) e c.lengthen_ring.ensures)
+    (inner_steps rs rs1 i d m h after inner x c.step-after.ensures r) r

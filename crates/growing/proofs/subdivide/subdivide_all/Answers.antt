@@ -1,4 +1,4 @@
-use Rattle.std.proofs.Common.{◌≡◌, ℕ, ◌+◌, ◌*◌, ◌≤◌, length, sym, ap, ◌∙◌, subst, mul-le-mul, arith}
+use Rattle.std.proofs.Common.{◌≡◌, ℕ, ◌+◌, sym, ap, ◌∙◌, subst, arith}
 use Rattle.mesh.specs.Numbering.{grown, steps_for}
 use Rattle.growing.specs.Edges.{edge_in, OfLength}
 use Rattle.growing.specs.Standing.{numbering}
@@ -7,20 +7,12 @@ use Rattle.growing.proofs.FromBare.{made_from_bare}
 use Rattle.growing.proofs.Subdividing.{from, ready_from, placed_from, subdivided}
 use Rattle.growing.proofs.subdivide.subdivide_all.Goals as goal
 
-pub step_all-requires : goal.step_all-requires
-step_all-requires c =
-    let n = c.args.n in
-    let a = c.args.amount in
-    let twelve : a ≤ 12 = omega arith in
-    let few : a * length c.args.edges.now ≤ 12 * 96 = mul-le-mul twelve c.requires.limits.few_edges in
-    record {
-      ready = (
-        from n,
-        subst (λ (k : ℕ). ReadyAll c.args.rings.now (from n) k c.args.contents.now) (sym c.steps_for.ensures)
-            (ready_from c.args.rings.now n a c.args.contents.now c.requires.count c.requires.stands.contents),
-      );
-      few = (c.requires.limits.few_triangles, omega (arith, c.lengthen_all-next.ensures.next, c.requires.limits.few_vertices));
-    }
+pub step_all-requires-clause-ready : goal.step_all-requires-clause-ready
+step_all-requires-clause-ready c = (
+  from c.args.n,
+  subst (λ (k : ℕ). ReadyAll c.args.rings.now (from c.args.n) k c.args.contents.now) (sym c.steps_for.ensures)
+      (ready_from c.args.rings.now c.args.n c.args.amount c.args.contents.now c.requires.count c.requires.stands.contents),
+)
 
 pub returns : goal.returns
 returns c =
@@ -43,7 +35,7 @@ returns c =
       stands =
           record {
             edges = λ i p.
-                subst (λ (m : ℕ). OfLength (m + a) (edge_in e.new.edges i)) (c.requires.stands.edges i (omega arith)).len (e.ensures.long i p);
+                subst (λ (m : ℕ). OfLength (m + a) (edge_in e.new.edges i)) (c.requires.stands.edges i (omega arith)) (e.ensures.long i p);
             contents = placed_from s.new.rings n a s.new.contents v.placed;
           };
     }
