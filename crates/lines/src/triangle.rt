@@ -18,7 +18,7 @@ fn write_ring<K: Sink>(sink: &mut K, view: &RingView, offset: u32)
     ensures { Draws K.Sink.meaning K.Sink.held (offset_by offset (own_strip view.now ∷ [])) sink.old sink.new }
 {
     let strip = ring_strip(view);
-    write_one(sink, strip.numbers(), offset);
+    write_one(sink, &strip, offset);
 }
 
 // The strips of a triangle, from outside in, each with a break behind it: its own, those of its
