@@ -28,16 +28,13 @@ pub fn write_triangle<K: Sink>(sink: &mut K, view: &RingView, offset: u32)
     requires taken { TakenBy (K.Sink.meaning sink.old) (offset_by offset (view_strips view.now)) }
     ensures { Draws K.Sink.meaning K.Sink.held (offset_by offset (view_strips view.now)) sink.old sink.new }
 {
-    write_ring(sink, view, offset);
-    let mut inner = view.inner;
-    let mut depth = view.depth;
-    while let TriangleContents::More(i) = inner {
-        depth -= 1;
-        let ring = ring_view(view.rings, i, depth);
+    let mut ring = *view;
+    write_ring(sink, &ring, offset);
+    while let TriangleContents::More(i) = ring.inner {
+        ring = ring_view(ring.rings, i, ring.depth - 1);
         write_ring(sink, &ring, offset);
-        inner = ring.inner;
     }
-    if let TriangleContents::Six { ab, bc, ca, .. } = inner {
+    if let TriangleContents::Six { ab, bc, ca, .. } = ring.inner {
         write_one(sink, &[ab, bc, ca, ab], offset);
     }
 }
