@@ -17,10 +17,8 @@ impl<'a> FaceWriter<'a> {
         requires { HasRoom (length faces.now) self.old }
         ensures { Writes faces.now self.old self.new }
     {
-        for face in faces {
-            self.out[self.at] = face.0;
-            self.out[self.at + 1] = face.1;
-            self.out[self.at + 2] = face.2;
+        for (a, b, c) in faces {
+            self.out[self.at..self.at + 3].copy_from_slice(&[*a, *b, *c]);
             self.at += 3;
         }
     }
