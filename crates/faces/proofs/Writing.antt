@@ -1,7 +1,7 @@
 -- Faces written one behind another.
-use Rattle.std.proofs.Common.{◌≡◌, ℕ, ◌+◌, ◌<◌, ◌≤◌, List, [], ◌∷◌, ◌++◌, length, get_or, take, sym, refl, ap, ◌∙◌, subst, ap₂, add-zero, arith, length-append}
+use Rattle.std.proofs.Common.{◌≡◌, ℕ, ◌+◌, ◌<◌, ◌≤◌, List, [], ◌∷◌, ◌++◌, length, get_or, take, sym, refl, ap, ◌∙◌, subst, ap₂, arith, length-append}
 use lib.Seq.{paste}
-use Rattle.std.proofs.lemmas.List.Edits.{paste_none, length-paste, paste_all, paste-paste}
+use Rattle.std.proofs.lemmas.List.Edits.{length-paste, paste_all, paste-paste}
 use Rattle.std.proofs.lemmas.List.{take_more}
 use Rattle.pattern.specs.Ring.{Face}
 use Rattle.mesh.specs.Faces.{face_numbers}
@@ -35,10 +35,6 @@ room_for {fs = fs} v = omega (arith, three_each fs, v.next_is, v.fits)
 as_long : {old new : List ℕ} {at p : ℕ} {fs : List (Face ℕ)} → Wrote old at fs new p → length new ≡ length old
 as_long {old = old} {at = at} {fs = fs} v = ap length v.holds ∙ written-length old at (face_numbers fs) (room_for v)
 
--- no faces
-still : (out : List ℕ) (at : ℕ) → at ≤ length out → Wrote out at [] out at
-still out at h = record { next_is = sym (add-zero at); fits = h; holds = paste_none out at [] ∙ pasted out at [] }
-
 joined :
     {old mid new : List ℕ} {at p q : ℕ} {fs gs : List (Face ℕ)} → Wrote old at fs mid p → Wrote mid p gs new q
     → Wrote old at (fs ++ gs) new q
@@ -67,10 +63,6 @@ face_more {mid = mid} {p = p} fs i d h room w e =
 -- the buffer keeps its length
 pub long_buffer : {old new : FaceWriter} {fs : List (Face ℕ)} → Writes fs old new → length new.out.now ≡ length old.out.now
 long_buffer v = as_long v.wrote
-
--- no faces
-pub nothing : (w : FaceWriter) → w.at ≤ length w.out.now → Writes [] w w
-nothing w h = record { wrote = still w.out.now w.at h; same_buffer = refl }
 
 -- faces, and then others right behind them
 pub glue : {old mid new : FaceWriter} {fs gs : List (Face ℕ)} → Writes fs old mid → Writes gs mid new → Writes (fs ++ gs) old new

@@ -2,18 +2,8 @@ use Rattle.std.proofs.Common.{◌≡◌, ◌-◌, ◌≤◌, length, ap, arith}
 use Rattle.pattern.specs.Ring.{pairs}
 use Rattle.rings.specs.Views.{ring_of_view}
 use Rattle.faces.proofs.Long.{up_more, long}
-use Rattle.faces.proofs.Writing.{glue, renamed, nothing, long_buffer}
+use Rattle.faces.proofs.Writing.{glue, renamed, long_buffer}
 use Rattle.faces.proofs.writer.FaceWriter.write_long.Goals as goal
-
-pub loop-i-init : goal.loop-i-init
-loop-i-init c = record { writes = nothing c.write-2.new.self (omega (arith, c.write-2.ensures.wrote.fits, long_buffer c.write-2.ensures)); at = omega arith }
-
-pub write-requires-in-loop-i : goal.write-requires-in-loop-i
-write-requires-in-loop-i c =
-    let a = long_buffer c.write.ensures in
-    let b = long_buffer c.write-2.ensures in
-    let d = long_buffer c.loop-i.invariant.writes in
-    omega (arith, ap length c.tips.ensures, ap length c.heels.ensures, ap length c.pairs.ensures, c.write.ensures.wrote.next_is, c.write-2.ensures.wrote.next_is, c.loop-i.invariant.at)
 
 pub loop-i-preserved : goal.loop-i-preserved
 loop-i-preserved c = record {
