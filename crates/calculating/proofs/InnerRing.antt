@@ -25,7 +25,7 @@ use Rattle.shape.specs.Lists.{Each}
 use Rattle.calculating.specs.Rules.{no_point, wrote}
 use Rattle.calculating.specs.ViewWrites.{Below, slice_writes, edges_writes, inside_writes}
 use Rattle.calculating.proofs.Inside.{contents_agree}
-use Rattle.calculating.proofs.Runs.{wrote-++, chained}
+use Rattle.calculating.proofs.Runs.{wrote-++}
 
 module _ (between : Vec3A → Vec3A → Float → Vec3A) (half : Vec3A → Vec3A → Vec3A) where
   along_agree :
@@ -89,20 +89,21 @@ module _ (between : Vec3A → Vec3A → Float → Vec3A) (half : Vec3A → Vec3A
 
   -- so the writes of contents that name ring i are those of its corners, and then of the view
   pub more_writes :
-      (rs : List Ring) (d i m : ℕ) (ab bc ca : ℕ → ℕ) (w : RingView) → 0 < d → Shows rs (d - 1) i w → Fits rs d m (kind.More i)
-      → (f g h k : List Vec3A) → g ≡ wrote between half (tip_writes m ab bc ca w.a w.b w.c) f → h ≡ wrote between half (edges_writes w) g
-      → k ≡ wrote between half (inside_writes w) h → k ≡ wrote between half (contents_writes m ab bc ca (held_view rs d (kind.More i))) f
-  more_writes rs zero i m ab bc ca w lt s t f g h k p q r = absurd (omega arith)
-  more_writes rs (suc d) i m ab bc ca w lt s t f g h k p q r =
+      (rs : List Ring) (d i m : ℕ) (ab bc ca : ℕ → ℕ) (w : RingView) → 0 < d → Shows rs (d - 1) i w → Fits rs d m (kind.More i) → (f : List Vec3A)
+      → wrote between half (tip_writes m ab bc ca w.a w.b w.c ++ (edges_writes w ++ inside_writes w)) f
+      ≡ wrote between half (contents_writes m ab bc ca (held_view rs d (kind.More i))) f
+  more_writes rs zero i m ab bc ca w lt s t f = absurd (omega arith)
+  more_writes rs (suc d) i m ab bc ca w lt s t f =
       let e : suc d - 1 ≡ d = omega arith in
       let S : Shows rs d i w = subst (λ (x : ℕ). Shows rs x i w) e s in
-      let tips = tip_writes m ab bc ca (ring_at rs i).a (ring_at rs i).b (ring_at rs i).c in
-      let p' : g ≡ wrote between half tips f
-      = p ∙ ap (λ x. wrote between half (tip_writes m ab bc ca x w.b w.c) f) S.a_is
-      ∙ ap (λ x. wrote between half (tip_writes m ab bc ca (ring_at rs i).a x w.c) f) S.b_is
-      ∙ ap (λ x. wrote between half (tip_writes m ab bc ca (ring_at rs i).a (ring_at rs i).b x) f) S.c_is in
-      chained between half (edges_writes w) (inside_writes w) g h k q r ∙ ring_writes rs d i w S t.4 g
-      ∙ ap (wrote between half (sides rs d i w S t.4 ++ contents_writes (L rs d i w S t.4) (side rs d i w S t.4 Ab) (side rs d i w S t.4 Bc) (side rs d i w S t.4 Ca) (held_view rs d (ring_at rs i).inner))) p'
+      let ring = ring_at rs i in
+      let tips = tip_writes m ab bc ca ring.a ring.b ring.c in
+      let view_of = edges_writes w ++ inside_writes w in
+      let ring_of = sides rs d i w S t.4 ++ contents_writes (L rs d i w S t.4) (side rs d i w S t.4 Ab) (side rs d i w S t.4 Bc) (side rs d i w S t.4 Ca) (held_view rs d ring.inner) in
+      ap (λ x. wrote between half (tip_writes m ab bc ca x w.b w.c ++ view_of) f) S.a_is
+      ∙ ap (λ x. wrote between half (tip_writes m ab bc ca ring.a x w.c ++ view_of) f) S.b_is
+      ∙ ap (λ x. wrote between half (tip_writes m ab bc ca ring.a ring.b x ++ view_of) f) S.c_is
+      ∙ wrote-++ between half tips view_of f ∙ ring_writes rs d i w S t.4 (wrote between half tips f) ∙ sym (wrote-++ between half tips ring_of f)
 
 -- ---- the vertices of a ring as places of n points
 each_at : (n : ℕ) (l : List ℕ) → 0 < n → Each (λ x. x < n) l → (i : ℕ) → get_or l i 0 < n

@@ -11,10 +11,6 @@ use Rattle.rings.specs.Slices.{read}
 use Rattle.rings.specs.Views.{inside}
 use Rattle.shape.specs.Lists.{Each}
 
--- all three are places of n points
-abbrev pub Within : ℕ → ℕ × ℕ × ℕ → Type 0
-Within n m = (m.0 < n) × (m.1 < n) × (m.2 < n)
-
 -- an edge is written by the triangle that reads it forward
 abbrev pub slice_writes : Slice → ℕ → ℕ → List (Write Vec3A)
 slice_writes (Forward s) p q = along (length s.now) (λ i. slice_index s.now i) p q ∷ []
