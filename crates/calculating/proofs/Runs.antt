@@ -1,5 +1,5 @@
 -- Writes in turn, and writes that are the same under other names.
-use Rattle.std.proofs.Common.{◌≡◌, ℕ, suc, ◌+◌, ◌<◌, ◌≤◌, true, cond, ltb, leb, List, [], ◌∷◌, ◌++◌, length, get_or, take, drop, set, Bor, sym, refl, ap, ◌∙◌, ap₂, add-zero, zero-add, add-one, append_assoc, take-append-drop, length-set, arith}
+use Rattle.std.proofs.Common.{◌≡◌, ℕ, suc, ◌+◌, ◌<◌, ◌≤◌, true, cond, ltb, leb, List, [], ◌∷◌, ◌++◌, length, get_or, take, drop, set, Bor, sym, refl, ap, ◌∙◌, ap₂, subst, add-zero, zero-add, add-one, append_assoc, take-append-drop, length-set, arith}
 use Rattle.std.proofs.lemmas.List.{take_more_set, drop-set-lt}
 use lib.Ieee.{Float}
 use Rattle.point.specs.declared.Vec3A.{Vec3A}
@@ -42,6 +42,10 @@ module _ {S : Type 0} {between : S → Vec3A → Vec3A → Float → Vec3A} {hal
         same_base = w.same_base ∙ v.same_base;
         same_points = w.same_points ∙ v.same_points;
       }
+
+  -- the same writes under another name
+  pub renamed : {ws vs : List (Write Vec3A)} {old new : Calculation S} → ws ≡ vs → Makes between half ws old new → Makes between half vs old new
+  renamed {old = old} {new = new} e v = subst (λ (l : List (Write Vec3A)). Makes between half l old new) e v
 
   -- writes that give the same
   pub alike :

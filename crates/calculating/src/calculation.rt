@@ -1,10 +1,12 @@
-// The writes of a calculation: the points of single vertices, and those along a list of vertices.
-ghost use Rattle.std.specs.Prelude.{◌≡◌, ℕ, ◌<◌, ◌≤◌, [], ◌∷◌, length, slice_index};
-ghost use Rattle.points.specs.Calculating.{along};
+// The writes of a calculation: the points of single vertices, and those along an edge.
+ghost use Rattle.std.specs.Prelude.{ℕ, ◌<◌, ◌≤◌, length, slice_index};
+ghost use Rattle.rings.specs.Slices.{read};
 ghost use Rattle.shape.specs.Lists.{Each};
 ghost use Rattle.calculating.specs.Calculating.{Makes, Within, middle_writes};
+ghost use Rattle.calculating.specs.ViewWrites.{slice_writes};
 
 use point::Vec3A;
+use rings::slice::Slice;
 use shape::base_shape::BaseShape;
 
 // A vertex, and the two vertices that it lies halfway between.
@@ -30,17 +32,20 @@ impl<'a, 'b, S: BaseShape> Calculation<'a, 'b, S> {
         }
     }
 
-    // The points of the listed vertices, from that of `p` to that of `q`.
-    pub(crate) fn put_along(&mut self, vertices: &[u32], p: u32, q: u32)
-        requires few { length vertices.now ≤ 12 }
-        requires within { (i : ℕ) → slice_index vertices.now i < length self.old.points.now }
+    // The points of an edge's vertices, from that of `p` to that of `q`, if the edge is read forward:
+    // the triangle that reads it backward finds them written.
+    pub(crate) fn put_edge(&mut self, edge: Slice, p: u32, q: u32)
+        requires few { length (read edge) ≤ 12 }
+        requires within { (i : ℕ) → slice_index (read edge) i < length self.old.points.now }
         requires ends { (p < length self.old.points.now) × (q < length self.old.points.now) }
-        ensures { Makes S.between S.half (along (length vertices.now) (λ i. slice_index vertices.now i) p q ∷ []) self.old self.new }
+        ensures { Makes S.between S.half (slice_writes edge.entry p q) self.old self.new }
     {
-        let a = self.points[p as usize];
-        let b = self.points[q as usize];
-        self.base
-            .interpolate_multiple(a, b, vertices, self.points)
-            .unwrap();
+        if let Slice::Forward(vertices) = edge {
+            let a = self.points[p as usize];
+            let b = self.points[q as usize];
+            self.base
+                .interpolate_multiple(a, b, vertices, self.points)
+                .unwrap();
+        }
     }
 }

@@ -1,17 +1,15 @@
 // The points of one triangle: along its edges, and in its contents.
-ghost use Rattle.std.specs.Prelude.{◌≡◌, ℕ, ◌<◌, ◌≤◌, length, slice_index};
-ghost use Rattle.points.specs.Calculating.{tip_writes};
+ghost use Rattle.std.specs.Prelude.{◌≡◌, ℕ, ◌<◌, ◌≤◌, length};
 ghost use Rattle.rings.specs.Slices.{read};
 ghost use Rattle.rings.specs.Views.{Whole};
 ghost use Rattle.calculating.specs.Calculating.{Makes};
 ghost use Rattle.calculating.specs.Rules.{wrote};
-ghost use Rattle.calculating.specs.ViewWrites.{Below, edges_writes, inside_writes, slice_writes, view_writes};
+ghost use Rattle.calculating.specs.ViewWrites.{Below, corner_writes, edges_writes, inside_writes, view_writes};
 
 use crate::calculation::Calculation;
 use point::Vec3A;
 use rings::contents::TriangleContents;
 use rings::ring_view::{RingView, ring_view};
-use rings::slice::Slice;
 use shape::base_shape::BaseShape;
 
 impl<'a, 'b, S: BaseShape> Calculation<'a, 'b, S> {
@@ -20,7 +18,7 @@ impl<'a, 'b, S: BaseShape> Calculation<'a, 'b, S> {
         requires many { 2 ≤ length (read view.now.ab) }
         requires below { Below (length self.old.points.now) view.now }
         requires corners { (a < length self.old.points.now) × ((b < length self.old.points.now) × (c < length self.old.points.now)) }
-        ensures { Makes S.between S.half (tip_writes (length (read view.now.ab)) (λ i. slice_index (read view.now.ab) i) (λ i. slice_index (read view.now.bc) i) (λ i. slice_index (read view.now.ca) i) a b c) self.old self.new }
+        ensures { Makes S.between S.half (corner_writes view.now a b c) self.old self.new }
     {
         let z = view.ab.len() - 2;
         self.put_middles(&[
@@ -28,19 +26,6 @@ impl<'a, 'b, S: BaseShape> Calculation<'a, 'b, S> {
             (b, view.ab.at(z), view.bc.at(1)),
             (c, view.bc.at(z), view.ca.at(1)),
         ]);
-    }
-
-    // The vertices of an edge, from the vertex `p` to the vertex `q`, if it is read forward: the
-    // triangle that reads it backward finds it written.
-    fn put_edge(&mut self, edge: Slice, p: u32, q: u32)
-        requires few { length (read edge) ≤ 12 }
-        requires within { (i : ℕ) → slice_index (read edge) i < length self.old.points.now }
-        requires ends { (p < length self.old.points.now) × (q < length self.old.points.now) }
-        ensures { Makes S.between S.half (slice_writes edge.entry p q) self.old self.new }
-    {
-        if let Slice::Forward(vertices) = edge {
-            self.put_along(vertices, p, q);
-        }
     }
 
     // The vertices of the edges ab, bc, ca.

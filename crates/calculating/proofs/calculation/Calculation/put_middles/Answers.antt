@@ -2,21 +2,18 @@ use Rattle.std.proofs.Common.{◌≡◌, ◌+◌, ◌<◌, ◌++◌, [], ◌∷�
 use Rattle.std.proofs.lemmas.List.{take_more, map-append}
 use Rattle.points.specs.Calculating.{middle}
 use Rattle.calculating.specs.Calculating.{middle_writes}
-use Rattle.calculating.specs.Rules.{wrote}
-use Rattle.calculating.proofs.Runs.{then, alike}
+use Rattle.calculating.proofs.Runs.{then, renamed}
 use Rattle.calculating.proofs.calculation.Calculation.put_middles.Goals as goal
 
 pub loop-x-preserved : goal.loop-x-preserved
 loop-x-preserved g c =
     let l = c.loop-x in
     let ms = c.args.middles.now in
-    let b = c.args.self.now.base.now in
-    let f = c.args.self.now.points.now in
     let h : l.x-index < length ms = omega arith in
     let m = get_or ms l.x-index (0, 0, 0) in
     let e : middle_writes (take l.x-index ms) ++ middle_writes (m ∷ []) ≡ middle_writes (take (l.x-index + 1) ms)
     = sym (map-append (λ m. middle m.0 m.1 m.2) (take l.x-index ms) (m ∷ [])) ∙ sym (ap middle_writes (take_more ms l.x-index (0, 0, 0) h)) in
-    alike (ap (λ ws. wrote (g.S.BaseShape.between b) (g.S.BaseShape.half b) ws f) e)
+    renamed e
     (then l.invariant (record {
       points_are = ap (set l.self.points.now m.0) c.interpolate_half.ensures;
       as_many = length-set l.self.points.now m.0 c.interpolate_half.result;
