@@ -1,5 +1,5 @@
 -- Writes in turn, and writes that are the same under other names.
-use Rattle.std.proofs.Common.{◌≡◌, ℕ, suc, ◌+◌, ◌<◌, ◌≤◌, true, cond, ltb, leb, List, [], ◌∷◌, ◌++◌, length, get_or, take, drop, set, Bor, sym, refl, ap, ◌∙◌, ap₂, subst, add-zero, zero-add, add-one, append_assoc, take-append-drop, length-set, arith}
+use Rattle.std.proofs.Common.{◌≡◌, ℕ, zero, suc, ◌+◌, ◌<◌, ◌≤◌, true, cond, ltb, leb, List, [], ◌∷◌, ◌++◌, length, get_or, take, drop, set, Bor, sym, refl, ap, ◌∙◌, ap₂, subst, add-zero, zero-add, add-one, append_assoc, take-append-drop, length-set, arith}
 use Rattle.std.proofs.lemmas.List.{take_more_set, drop-set-lt}
 use lib.Ieee.{Float}
 use Rattle.point.specs.declared.Vec3A.{Vec3A}
@@ -7,6 +7,7 @@ use Rattle.points.specs.Calculating.{Meaning, Write, put, middle, along, at, run
 use Rattle.points.proofs.Listed.{along_stands}
 use Rattle.shape.specs.Listing.{share, placed, all_below, listable}
 use Rattle.shape.specs.Listing as listing
+use Rattle.shape.specs.Lists.{Each}
 use Rattle.calculating.specs.declared.calculation.Calculation.{Calculation}
 use Rattle.calculating.specs.Calculating.{Makes}
 use Rattle.calculating.specs.Rules.{no_point, rules, wrote}
@@ -77,3 +78,9 @@ put_in_row M i (p ∷ ps) f h =
 
 pub base_points : (M : Meaning Vec3A Float) (ps f : List Vec3A) → length ps ≤ length f → run share no_point M (point_writes 0 ps) f ≡ ps ++ drop (length ps) f
 base_points M ps f h = put_in_row M 0 ps f (omega arith) ∙ ap (λ j. ps ++ drop j f) (zero-add (length ps))
+
+-- what holds of each holds at every place
+pub at_place : {X : Type 0} (P : X → Type 0) (xs : List X) (i : ℕ) (d : X) → i < length xs → Each P xs → P (get_or xs i d)
+at_place P [] i d h e = absurd (omega arith)
+at_place P (x ∷ xs) zero d h e = e.0
+at_place P (x ∷ xs) (suc i) d h e = at_place P xs i d (omega arith) e.1

@@ -1,9 +1,15 @@
 use Rattle.std.proofs.Common.{◌≡◌, ◌+◌, ◌<◌, ◌++◌, [], ◌∷◌, length, get_or, take, set, sym, refl, ap, ◌∙◌, arith, length-set}
 use Rattle.std.proofs.lemmas.List.{take_more, map-append}
 use Rattle.points.specs.Calculating.{middle}
-use Rattle.calculating.specs.Calculating.{middle_writes}
-use Rattle.calculating.proofs.Runs.{then, renamed}
+use Rattle.calculating.specs.Calculating.{Within, middle_writes}
+use Rattle.calculating.proofs.Runs.{then, renamed, at_place}
 use Rattle.calculating.proofs.calculation.Calculation.put_middles.Goals as goal
+
+pub bounds-self-x : goal.bounds-self-x
+bounds-self-x g c =
+    let n = length c.args.self.now.points.now in
+    let h = at_place (Within n) c.args.middles.now c.loop-x.x-index (0, 0, 0) (omega arith) c.requires in
+    omega (arith, h.0, c.loop-x.invariant.as_many)
 
 pub loop-x-preserved : goal.loop-x-preserved
 loop-x-preserved g c =
