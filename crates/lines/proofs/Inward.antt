@@ -1,5 +1,5 @@
 -- One ring further in: what holds of the view of the ring that a view's contents name.
-use Rattle.std.proofs.Common.{◌≡◌, ℕ, zero, suc, ◌-◌, ◌<◌, List, [], ◌∷◌, sym, ap, ◌∙◌, subst, ap₂, refl, arith}
+use Rattle.std.proofs.Common.{◌≡◌, ℕ, zero, suc, ◌-◌, List, [], ◌∷◌, sym, ap, ◌∙◌, subst, ap₂, refl, arith}
 use Rattle.pattern.specs.Ring.{ring_strip, contents_strips}
 use Rattle.rings.specs.declared.contents.Ring.{Ring}
 use Rattle.rings.specs.declared.contents.TriangleContents.{TriangleContents}
@@ -18,7 +18,6 @@ inner_strips w = contents_strips (inside w)
 -- the contents of w are the ring that v shows
 pub record Within (w v : RingView) : Type 0 where
   pub whole : WholeView v
-  pub less : v.depth < w.depth
   pub strips : inner_strips w ≡ own_strip v ∷ inner_strips v
 
 deeper : (rs : List Ring) (d m i : ℕ) → Fits rs d m (kind.More i) → d ≡ suc (d - 1)
@@ -37,7 +36,6 @@ within w v m i is fits shows =
     let f : Fits rs (suc d) m (kind.More i) = subst (λ (n : ℕ). Fits rs n m (kind.More i)) deep named in
     record {
       whole = whole_shown rs d i v shows f.3 f.4;
-      less = omega (arith, shows.depth_is);
       strips =
           ap₂ (λ n t. contents_strips (held_view rs n t)) deep is
           ∙ sym (ap₂ (λ l ls. l ∷ ls)

@@ -47,8 +47,9 @@ fn strip_of_two(view: &RingView) -> [u32; 10]
     ensures { result ≡ ring_strip 2 (ring_of_view view.now) }
 {
     let x = view.inner(Side::Ab, 0);
-    let [ab0, bc0, ca0] = [Side::Ab, Side::Bc, Side::Ca].map(|side| view.edge(side, 0));
-    let [ab1, bc1, ca1] = [Side::Ab, Side::Bc, Side::Ca].map(|side| view.edge(side, 1));
+    let sides = [Side::Ab, Side::Bc, Side::Ca];
+    let [ab0, bc0, ca0] = sides.map(|side| view.edge(side, 0));
+    let [ab1, bc1, ca1] = sides.map(|side| view.edge(side, 1));
     [x, ab1, bc0, x, bc1, ca0, x, ca1, ab0, x]
 }
 

@@ -1,5 +1,4 @@
-use Rattle.std.proofs.Common.{◌≡◌, ℕ, ◌+◌, ◌-◌, List, [], ◌∷◌, ◌++◌, sym, ap, ◌∙◌, ap₂, append_assoc, append-nil, arith}
-use Rattle.pattern.specs.Ring.{down}
+use Rattle.std.proofs.Common.{◌≡◌, ℕ, ◌+◌, ◌-◌, [], ◌∷◌, ◌++◌, ap, ◌∙◌, ap₂, append_assoc, arith}
 use Rattle.rings.specs.Views.{edge_at, inner_at, ring_of_view}
 use Rattle.lines.proofs.Runs.{down_more}
 use Rattle.lines.proofs.ring_strip.zigzag.Goals as goal
@@ -18,18 +17,4 @@ loop-i-preserved c =
     record {
       items = down_more s c.push-in-loop-i.new.self.items i (λ j. u j ∷ v (j - 1) ∷ []) (omega arith) two ∙ c.loop-i.invariant.items;
       len = omega (arith, c.loop-i.invariant.len, c.push.ensures.len, c.push-in-loop-i.ensures.len);
-    }
-
-pub returns : goal.returns
-returns c =
-    let i = c.loop-i.i in
-    let u : ℕ → ℕ = edge_at c.args.side (ring_of_view c.args.view.now) in
-    let v : ℕ → ℕ = inner_at c.args.side (ring_of_view c.args.view.now) in
-    let F : ℕ → List ℕ = λ j. u j ∷ v (j - 1) ∷ [] in
-    let s = c.loop-i.strip.items in
-    let k : i ≡ 0 = omega arith in
-    let all : s ≡ c.args.strip.now.items ++ down c.args.last F = sym (append-nil s) ∙ sym (ap (λ j. s ++ down j F) k) ∙ c.loop-i.invariant.items in
-    record {
-      items = c.push-2.ensures.items ∙ ap₂ (λ l x. l ++ (x ∷ [])) all c.edge-2.ensures ∙ append_assoc c.args.strip.now.items (down c.args.last F) (u 0 ∷ []);
-      len = omega (arith, c.loop-i.invariant.len, c.push-2.ensures.len);
     }
