@@ -43,6 +43,7 @@ numbers_fit offset [] h = refl
 numbers_fit offset (x ∷ xs) h =
     ap (λ b. cond b (first_too_large offset xs) (Some (x + offset))) (lt-ltb (x + offset) 4294967295 h.0) ∙ numbers_fit offset xs h.1
 
+-- a strip that the sink takes is not refused
 pub strip_accepted : (s : Sink) (offset : ℕ) (xs : List ℕ) → TakenBy s (offset_by offset (xs ∷ [])) → strip_answer s xs offset ≡ Ok tt
 strip_accepted s offset xs h =
     let l : length (map (λ x. x + offset) xs) ≡ length xs = length-map xs (λ x. x + offset) in
