@@ -7,6 +7,7 @@ use Rattle.pattern.proofs.Runs.{up_cong}
 use Rattle.pattern.specs.Step.{NumberedContents, vertices, view}
 use Rattle.point.specs.declared.Vec3A.{Vec3A}
 use Rattle.points.specs.Calculating.{Write, along, at, tip_writes, contents_writes}
+use Rattle.questions.proofs.Stepwise.{each_left, each_right}
 use Rattle.rings.specs.declared.contents.Ring.{Ring}
 use Rattle.rings.specs.declared.contents.Side.{Side}
 use Rattle.rings.specs.declared.contents.Side.TheVariants.{Ab, Bc, Ca}
@@ -26,7 +27,7 @@ use Rattle.shape.specs.Lists.{Each}
 use Rattle.calculating.specs.Rules.{no_point, wrote}
 use Rattle.calculating.specs.ViewWrites.{Below, slice_writes, edges_writes, inside_writes}
 use Rattle.calculating.proofs.Inside.{contents_agree}
-use Rattle.calculating.proofs.Runs.{wrote-++, chained}
+use Rattle.calculating.proofs.Runs.{wrote-++}
 
 module _ (between : Vec3A → Vec3A → Float → Vec3A) (half : Vec3A → Vec3A → Vec3A) where
   along_agree :
@@ -88,36 +89,34 @@ module _ (between : Vec3A → Vec3A → Float → Vec3A) (half : Vec3A → Vec3A
         wrote-++ between half (edges_writes w) (inside_writes w) f ∙ ap (wrote between half (inside_writes w)) (sides_same f)
         ∙ ap (λ ws. wrote between half ws (wrote between half sides f)) inside_same
 
+  swapped :
+      (ts us vs ws : List (Write Vec3A)) (f : List Vec3A) → ts ≡ us → ((g : List Vec3A) → wrote between half vs g ≡ wrote between half ws g)
+      → wrote between half (ts ++ vs) f ≡ wrote between half (us ++ ws) f
+  swapped ts us vs ws f e h =
+      wrote-++ between half ts vs f ∙ h (wrote between half ts f) ∙ sym (wrote-++ between half ts ws f) ∙ ap (λ l. wrote between half (l ++ ws) f) e
+
   -- so the writes of contents that name ring i are those of its corners, and then of the view
   pub more_writes :
-      (rs : List Ring) (d i m : ℕ) (ab bc ca : ℕ → ℕ) (w : RingView) → 0 < d → Shows rs (d - 1) i w → Fits rs d m (kind.More i)
-      → (f g h k : List Vec3A) → g ≡ wrote between half (tip_writes m ab bc ca w.a w.b w.c) f → h ≡ wrote between half (edges_writes w) g
-      → k ≡ wrote between half (inside_writes w) h → k ≡ wrote between half (contents_writes m ab bc ca (held_view rs d (kind.More i))) f
-  more_writes rs zero i m ab bc ca w lt s t f g h k p q r = absurd (omega arith)
-  more_writes rs (suc d) i m ab bc ca w lt s t f g h k p q r =
+      (rs : List Ring) (d i m : ℕ) (ab bc ca : ℕ → ℕ) (w : RingView) → 0 < d → Shows rs (d - 1) i w → Fits rs d m (kind.More i) → (f : List Vec3A)
+      → wrote between half (tip_writes m ab bc ca w.a w.b w.c ++ (edges_writes w ++ inside_writes w)) f
+      ≡ wrote between half (contents_writes m ab bc ca (held_view rs d (kind.More i))) f
+  more_writes rs zero i m ab bc ca w lt s t f = absurd (omega arith)
+  more_writes rs (suc d) i m ab bc ca w lt s t f =
       let e : suc d - 1 ≡ d = omega arith in
       let S : Shows rs d i w = subst (λ (x : ℕ). Shows rs x i w) e s in
-      let tips = tip_writes m ab bc ca (ring_at rs i).a (ring_at rs i).b (ring_at rs i).c in
-      let p' : g ≡ wrote between half tips f
-      = p ∙ ap (λ x. wrote between half (tip_writes m ab bc ca x w.b w.c) f) S.a_is
-      ∙ ap (λ x. wrote between half (tip_writes m ab bc ca (ring_at rs i).a x w.c) f) S.b_is
-      ∙ ap (λ x. wrote between half (tip_writes m ab bc ca (ring_at rs i).a (ring_at rs i).b x) f) S.c_is in
-      chained between half (edges_writes w) (inside_writes w) g h k q r ∙ ring_writes rs d i w S t.4 g
-      ∙ ap (wrote between half (sides rs d i w S t.4 ++ contents_writes (L rs d i w S t.4) (side rs d i w S t.4 Ab) (side rs d i w S t.4 Bc) (side rs d i w S t.4 Ca) (held_view rs d (ring_at rs i).inner))) p'
+      let ring = ring_at rs i in
+      let p = S.a_is in
+      let q = S.b_is in
+      let r = S.c_is in
+      swapped (tip_writes m ab bc ca w.a w.b w.c) (tip_writes m ab bc ca ring.a ring.b ring.c) (edges_writes w ++ inside_writes w)
+      (sides rs d i w S t.4 ++ contents_writes (L rs d i w S t.4) (side rs d i w S t.4 Ab) (side rs d i w S t.4 Bc) (side rs d i w S t.4 Ca) (held_view rs d ring.inner))
+      f (cc) (ring_writes rs d i w S t.4)
 
 -- ---- the vertices of a ring as places of n points
 each_at : (n : ℕ) (l : List ℕ) → 0 < n → Each (λ x. x < n) l → (i : ℕ) → get_or l i 0 < n
 each_at n [] z e i = z
 each_at n (x ∷ l) z e zero = e.0
 each_at n (x ∷ l) z e (suc i) = each_at n l z e.1 i
-
-each_left : (n : ℕ) (l m : List ℕ) → Each (λ x. x < n) (l ++ m) → Each (λ x. x < n) l
-each_left n [] m e = tt
-each_left n (x ∷ l) m e = (e.0, each_left n l m e.1)
-
-each_right : (n : ℕ) (l m : List ℕ) → Each (λ x. x < n) (l ++ m) → Each (λ x. x < n) m
-each_right n [] m e = e
-each_right n (x ∷ l) m e = each_right n l m e.1
 
 short_at : (l : List ℕ) (n m i : ℕ) → 0 < n → length l ≡ m → (i < m → get_or l i 0 < n) → get_or l i 0 < n
 short_at l n m i z e h =
@@ -143,8 +142,8 @@ ring_below rs (suc d) i n w lt h z e =
     let S : Shows rs d i w = subst (λ (x : ℕ). Shows rs x i w) q h in
     let g : Ring = ring_at rs i in
     let sides : List ℕ = g.sides.items in
-    let within : Each (λ x. x < n) (vertices (held rs d g.inner)) = each_right n sides (vertices (held rs d g.inner)) e.1.1.1 in
-    let here : Each (λ x. x < n) sides = each_left n sides (vertices (held rs d g.inner)) e.1.1.1 in
+    let within : Each (λ x. x < n) (vertices (held rs d g.inner)) = each_right (λ x. x < n) sides (vertices (held rs d g.inner)) e.1.1.1 in
+    let here : Each (λ x. x < n) sides = each_left (λ x. x < n) sides (vertices (held rs d g.inner)) e.1.1.1 in
     record {
       some = z;
       on_a = subst (λ x. x < n) (sym S.a_is) e.0;

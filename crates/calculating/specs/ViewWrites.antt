@@ -2,7 +2,7 @@
 use Rattle.std.specs.Prelude.{ℕ, ◌<◌, List, [], ◌∷◌, ◌++◌, length, slice_index}
 use Rattle.pattern.specs.Step.{vertices}
 use Rattle.point.specs.declared.Vec3A.{Vec3A}
-use Rattle.points.specs.Calculating.{Write, along, contents_writes}
+use Rattle.points.specs.Calculating.{Write, along, tip_writes, contents_writes}
 use Rattle.rings.specs.declared.ring_view.RingView.{RingView}
 use Rattle.rings.specs.declared.slice.Slice.{Slice}
 use Rattle.rings.specs.declared.slice.Slice.TheVariants.{Forward, Backward}
@@ -10,10 +10,6 @@ use Rattle.rings.specs.Held.{held}
 use Rattle.rings.specs.Slices.{read}
 use Rattle.rings.specs.Views.{inside}
 use Rattle.shape.specs.Lists.{Each}
-
--- all three are places of n points
-abbrev pub Within : ℕ → ℕ × ℕ × ℕ → Type 0
-Within n m = (m.0 < n) × (m.1 < n) × (m.2 < n)
 
 -- an edge is written by the triangle that reads it forward
 abbrev pub slice_writes : Slice → ℕ → ℕ → List (Write Vec3A)
@@ -23,6 +19,11 @@ slice_writes (Backward s) p q = []
 abbrev pub inside_writes : RingView → List (Write Vec3A)
 inside_writes w =
     contents_writes (length (read w.ab)) (λ i. slice_index (read w.ab) i) (λ i. slice_index (read w.bc) i) (λ i. slice_index (read w.ca) i) (inside w)
+
+-- the corners a, b, c of its contents
+abbrev pub corner_writes : RingView → ℕ → ℕ → ℕ → List (Write Vec3A)
+corner_writes w a b c =
+    tip_writes (length (read w.ab)) (λ i. slice_index (read w.ab) i) (λ i. slice_index (read w.bc) i) (λ i. slice_index (read w.ca) i) a b c
 
 abbrev pub edges_writes : RingView → List (Write Vec3A)
 edges_writes w = slice_writes w.ab w.a w.b ++ (slice_writes w.bc w.b w.c ++ slice_writes w.ca w.c w.a)

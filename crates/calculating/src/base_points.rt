@@ -8,11 +8,10 @@ ghost use Rattle.calculating.specs.Rules.{no_point};
 use point::Vec3A;
 
 // Writes the base's points to the vertices 0, 1, 2 and so on.
+#[tactic(auto, using(crate::proofs::Runs::base_points))]
 pub fn put_points(list: &[Vec3A], points: &mut [Vec3A])
     requires { length list.now ≤ length points.old }
     ensures { (M : Meaning Vec3A Float) → points.new ≡ run share no_point M (point_writes 0 list.now) points.old }
 {
-    for i in 0..list.len() {
-        points[i] = list[i];
-    }
+    points[..list.len()].copy_from_slice(list);
 }

@@ -2,5 +2,5 @@
 #![tactic(auto)]
 
 pub mod base_points;
+mod calculation;
 pub mod contents;
-mod writes;

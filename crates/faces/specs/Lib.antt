@@ -1,3 +1,4 @@
 pub mod Written
+pub mod Writer
 pub mod Formulas
 pub mod Viewed

@@ -1,12 +1,14 @@
-// The formulas of a ring's faces, each along one side. Their turns are the other two sides.
-ghost use Rattle.std.specs.Prelude.{◌≡◌, ℕ, suc, ◌+◌, ◌≤◌, length};
+// The formulas of a ring's faces, each along one side and in its turns along the other two.
+ghost use Rattle.std.specs.Prelude.{◌≡◌, ℕ, ◌+◌, ◌≤◌};
+ghost use Rattle.pattern.specs.Ring.{tips, heels, pairs};
 ghost use Rattle.rings.specs.Views.{ring_of_view, corner_at, Opens};
-ghost use Rattle.faces.specs.Formulas.{previous_side, tip_at, heel_at, pair_at, end_at};
-ghost use Rattle.faces.specs.Written.{Wrote};
+ghost use Rattle.faces.specs.Formulas.{previous_side, ends_after};
 
-use crate::put::{Face, one};
+use crate::writer::Face;
 use rings::contents::Side;
 use rings::ring_view::RingView;
+
+const SIDES: [Side; 3] = [Side::Ab, Side::Bc, Side::Ca];
 
 // The corner where a side starts.
 fn corner(view: &RingView, side: Side) -> u32
@@ -30,50 +32,57 @@ fn previous(side: Side) -> Side
     }
 }
 
-// The face at a corner, where `last` is the last position of an edge.
-pub(crate) fn tip(view: &RingView, side: Side, last: usize) -> Face
-    ensures { result ≡ tip_at last side (ring_of_view view.now) }
+// The faces at the corners, where `last` is the last position of an edge.
+pub(crate) fn tips(view: &RingView, last: usize) -> [Face; 3]
+    ensures { result ≡ tips last (ring_of_view view.now) }
 {
-    (
+    SIDES.map(|side| (
         corner(view, side),
         view.edge(side, 0),
         view.edge(previous(side), last),
-    )
+    ))
 }
 
-// The face behind a tip.
-pub(crate) fn heel(view: &RingView, side: Side, last: usize) -> Face
+// The faces behind the tips.
+pub(crate) fn heels(view: &RingView, last: usize) -> [Face; 3]
     requires { Opens 1 view.now }
-    ensures { result ≡ heel_at last side (ring_of_view view.now) }
+    ensures { result ≡ heels last (ring_of_view view.now) }
 {
-    (
+    SIDES.map(|side| (
         view.edge(side, 0),
         view.inner(side, 0),
         view.edge(previous(side), last),
-    )
+    ))
 }
 
-// The last face along an edge, between its positions `k` and `k + 1`.
-pub(crate) fn end(view: &RingView, side: Side, k: usize) -> Face
+// The last faces along the edges, between their positions `k` and `k + 1`. They are named one by
+// one, since the check meets each by itself then.
+pub(crate) fn ends(view: &RingView, k: usize) -> [Face; 3]
     requires { (k ≤ 12) × (Opens (k + 1) view.now) }
-    ensures { result ≡ end_at k side (ring_of_view view.now) }
+    ensures { result ≡ ends_after k (ring_of_view view.now) }
 {
-    (
-        view.edge(side, k + 1),
-        view.inner(side, k),
-        view.edge(side, k),
-    )
+    let [p, q, s] = SIDES.map(|side| {
+        (
+            view.edge(side, k + 1),
+            view.inner(side, k),
+            view.edge(side, k),
+        )
+    });
+    [p, q, s]
 }
 
-// The two faces between the positions `i` and `i + 1` of an edge and of the contents.
-pub(crate) fn write_pair(out: &mut [u32], at: usize, view: &RingView, side: Side, i: usize) -> usize
-    requires { (i ≤ 12) × ((at + 6 ≤ length out.old) × (Opens (i + 2) view.now)) }
-    ensures { Wrote out.old at (pair_at i side (ring_of_view view.now)) out.new result }
+// The two faces of each edge between the positions `i` and `i + 1` of the edge and of the contents.
+pub(crate) fn pairs(view: &RingView, i: usize) -> [Face; 6]
+    requires { (i ≤ 12) × (Opens (i + 2) view.now) }
+    ensures { result ≡ pairs i (ring_of_view view.now) }
 {
-    let p = view.edge(side, i);
-    let q = view.edge(side, i + 1);
-    let x = view.inner(side, i);
-    let y = view.inner(side, i + 1);
-    let next = one(out, at, (p, q, x));
-    one(out, next, (q, y, x))
+    let [(p, q), (r, s), (t, u)] = SIDES.map(|side| {
+        let next = view.edge(side, i + 1);
+        let inner = view.inner(side, i);
+        (
+            (view.edge(side, i), next, inner),
+            (next, view.inner(side, i + 1), inner),
+        )
+    });
+    [p, q, r, s, t, u]
 }

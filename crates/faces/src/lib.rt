@@ -2,6 +2,6 @@
 #![tactic(auto)]
 
 mod formulas;
-mod put;
 mod ring;
 pub mod triangle;
+mod writer;

@@ -1,26 +1,10 @@
--- A strip of a ring with m vertices an edge reads no edge past m.
-use Rattle.std.proofs.Common.{◌≡◌, ℕ, zero, suc, ◌-◌, ◌<◌, ◌≤◌, List, [], ◌∷◌, ◌++◌, refl, ap₂, arith}
-use Rattle.pattern.specs.Ring.{Ring, Contents, ring_of, pos_ab, pos_bc, pos_ca, up, down, zigzag, ring_strip}
+-- Rings that agree up to m have the same strip: a ring whose edges have m vertices each reads no edge beyond them.
+use Rattle.std.proofs.Common.{◌≡◌, ℕ, zero, suc, ◌-◌, ◌≤◌, List, [], ◌∷◌, ◌++◌, refl, ap₂, arith}
+use Rattle.pattern.specs.Ring.{Ring, up, down, zigzag, ring_strip}
 use Rattle.rings.specs.declared.contents.Side.{Side}
 use Rattle.rings.specs.declared.contents.Side.TheVariants.{Ab, Bc, Ca}
-use Rattle.rings.specs.declared.ring_view.RingView.{RingView}
-use Rattle.rings.specs.Views.{edge_at, inner_at, inside, ring_of_view}
-
--- two rings that read the same at every position of the contents, and at every position below m of an edge
-pub record Agree (m : ℕ) (r q : Ring ℕ) : Type 0 where
-  pub edges : (s : Side) (i : ℕ) → i < m → edge_at s r i ≡ edge_at s q i
-  pub inner : (s : Side) (i : ℕ) → inner_at s r i ≡ inner_at s q i
-
--- a view reads what a ring of the same contents reads, if its edges do
-pub view_agrees :
-    (m : ℕ) (w : RingView) (a b c : ℕ) (ab bc ca : ℕ → ℕ) (t : Contents ℕ) → w.a ≡ a → inside w ≡ t
-    → ((s : Side) (i : ℕ) → i < m → edge_at s (ring_of_view w) i ≡ edge_at s (ring_of a b c ab bc ca t) i) → Agree m (ring_of_view w) (ring_of a b c ab bc ca t)
-view_agrees m w a b c ab bc ca t e f h = record { edges = h; inner = inner }
-  where
-    inner : (s : Side) (i : ℕ) → inner_at s (ring_of_view w) i ≡ inner_at s (ring_of a b c ab bc ca t) i
-    inner Ab i = ap₂ (λ x y. pos_ab x y i) e f
-    inner Bc i = ap₂ (λ x y. pos_bc x y i) e f
-    inner Ca i = ap₂ (λ x y. pos_ca x y i) e f
+use Rattle.rings.specs.Views.{edge_at, inner_at}
+use Rattle.rings.proofs.Agree.{Agree}
 
 up_agree : (i k : ℕ) (f g : ℕ → ℕ) → ((j : ℕ) → f j ≡ g j) → up i k (λ j. f j ∷ []) ≡ up i k (λ j. g j ∷ [])
 up_agree i zero f g h = refl
@@ -35,7 +19,7 @@ module _ (r q : Ring ℕ) where
   zigzag_agree z a s =
       ap₂ (λ l x. l ++ (x ∷ []))
       (down_agree z (λ i. edge_at s r i ∷ inner_at s r (i - 1) ∷ []) (λ i. edge_at s q i ∷ inner_at s q (i - 1) ∷ [])
-      (λ i h. ap₂ (λ x y. x ∷ y ∷ []) (a.edges s i (omega arith)) (a.inner s (i - 1))))
+      (λ i h. ap₂ (λ x y. x ∷ y ∷ []) (a.edges s i (omega arith)) (a.inners s (i - 1))))
       (a.edges s 0 (omega arith))
 
   pub strip_agree : (m : ℕ) → Agree m r q → ring_strip m r ≡ ring_strip m q
@@ -52,13 +36,13 @@ module _ (r q : Ring ℕ) where
       let u = a.edges Ab 1 (omega arith) in
       let v = a.edges Bc 1 (omega arith) in
       let w = a.edges Ca 1 (omega arith) in
-      let o = a.inner Ab 0 in
+      let o = a.inners Ab 0 in
       cc
   strip_agree (suc (suc (suc k))) a =
-      let p = up_agree 0 (suc k) r.AB q.AB (a.inner Ab) in
-      let p' = up_agree 0 (suc k) r.BC q.BC (a.inner Bc) in
-      let p'' = up_agree 0 (suc k) r.CA q.CA (a.inner Ca) in
-      let x = a.inner Ab 0 in
+      let p = up_agree 0 (suc k) r.AB q.AB (a.inners Ab) in
+      let p' = up_agree 0 (suc k) r.BC q.BC (a.inners Bc) in
+      let p'' = up_agree 0 (suc k) r.CA q.CA (a.inners Ca) in
+      let x = a.inners Ab 0 in
       let y = a.edges Ab 0 (omega arith) in
       ap₂ (λ l z. l ++ z)
       (ap₂ (λ l z. l ++ z)

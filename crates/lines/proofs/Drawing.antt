@@ -1,8 +1,7 @@
 -- Strips that a sink takes, written one after another.
-use Rattle.std.proofs.Common.{false, leb, ◌≡◌, ℕ, ◌+◌, ◌<◌, cond, T, List, [], ◌∷◌, ◌++◌, map, length, Some, None, Ok, Err, Result, sym, refl, ap, ◌∙◌, subst, arith, length-append}
+use Rattle.std.proofs.Common.{false, leb, ◌≡◌, ℕ, ◌+◌, ◌<◌, cond, T, List, [], ◌∷◌, ◌++◌, map, length, Some, None, Ok, Err, sym, refl, ap, ◌∙◌, subst, arith, length-append}
 use base.Fml.{GName}
 use lib.ListN.{length-map}
-use Rattle.refusal.specs.declared.Refusal.{Refusal}
 use Rattle.refusal.specs.declared.Refusal.TheVariants.{SinkFull}
 use Rattle.pattern.specs.Amounts.{lengths}
 use Rattle.shape.specs.Lists.{Each}
@@ -13,7 +12,7 @@ use Rattle.mesh.specs.Strips.{offset_by}
 use Rattle.mesh.proofs.Amounts.{lengths-++}
 use Rattle.mesh.proofs.Sinks.{sinks_filled}
 use Rattle.strips.specs.Taking.{taken_or_full}
-use Rattle.strips.specs.Writing.{first_too_large, too_large_or, strip_answer, WritesStrip}
+use Rattle.strips.specs.Writing.{first_too_large, too_large_or, strip_answer}
 use Rattle.strips.proofs.Fitting.{is_true}
 use Rattle.lines.specs.Drawing.{Draws}
 
@@ -46,7 +45,8 @@ numbers_fit offset (x ∷ xs) h =
     let n : leb 4294967295 (x + offset) ≡ false = grind arith in
     ap (λ b. cond b (Some (x + offset)) (first_too_large offset xs)) n ∙ numbers_fit offset xs h.1
 
-strip_accepted : (s : Sink) (offset : ℕ) (xs : List ℕ) → TakenBy s (offset_by offset (xs ∷ [])) → strip_answer s xs offset ≡ Ok tt
+-- a strip that the sink takes is not refused
+pub strip_accepted : (s : Sink) (offset : ℕ) (xs : List ℕ) → TakenBy s (offset_by offset (xs ∷ [])) → strip_answer s xs offset ≡ Ok tt
 strip_accepted s offset xs h =
     let l : length (map (λ x. x + offset) xs) ≡ length xs = length-map xs (λ x. x + offset) in
     let e : length (map (λ x. x + offset) xs) + 0 ≡ length xs = omega arith in
@@ -55,14 +55,6 @@ strip_accepted s offset xs h =
     ∙ ap (λ b. cond b (Ok tt) (Err (SinkFull (length xs) 1))) (is_true (s.takes (length xs) 1) t)
 
 module _ {S : Type 0} {meaning : S → Sink} {held : S → List GName} where
-  -- a strip that the sink takes is not refused
-  pub strip_drawn :
-      (offset : ℕ) (xs : List ℕ) (old new : S) (r : Result (Unit {0}) Refusal) → TakenBy (meaning old) (offset_by offset (xs ∷ []))
-      → WritesStrip meaning held xs offset old r new → Draws meaning held (offset_by offset (xs ∷ [])) old new
-  strip_drawn offset xs old new r h w =
-      let ok = w.answers ∙ strip_accepted (meaning old) offset xs h in
-      record { writes = w.accepted ok; holds = w.holds }
-
   pub none_drawn : (s : S) → Draws meaning held [] s s
   none_drawn s = record { writes = nothing; holds = refl }
 

@@ -1,4 +1,4 @@
-pub mod Gathering
+pub mod Runs
 pub mod LongStrip
 pub mod Drawing
 pub mod Agreeing

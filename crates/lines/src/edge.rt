@@ -16,7 +16,7 @@ pub fn write_edge<K: Sink>(sink: &mut K, first: u32, vertices: &[u32], last: u32
 {
     let mut strip = Strip::new();
     strip.push(first);
-    strip.push_all(vertices);
+    strip.try_extend_from_slice(vertices).unwrap();
     strip.push(last);
-    write_one(sink, strip.numbers(), offset);
+    write_one(sink, &strip, offset);
 }

@@ -12,5 +12,5 @@ pub(crate) fn write_one<K: Sink>(sink: &mut K, numbers: &[u32], offset: u32)
     requires { TakenBy (K.Sink.meaning sink.old) (offset_by offset (numbers.now ∷ [])) }
     ensures { Draws K.Sink.meaning K.Sink.held (offset_by offset (numbers.now ∷ [])) sink.old sink.new }
 {
-    let _ = write_strip(sink, numbers, offset);
+    write_strip(sink, numbers, offset).unwrap();
 }

@@ -18,7 +18,7 @@ fn write_ring<K: Sink>(sink: &mut K, view: &RingView, offset: u32)
     ensures { Draws K.Sink.meaning K.Sink.held (offset_by offset (own_strip view.now ∷ [])) sink.old sink.new }
 {
     let strip = ring_strip(view);
-    write_one(sink, strip.numbers(), offset);
+    write_one(sink, &strip, offset);
 }
 
 // The strips of a triangle, from outside in, each with a break behind it: its own, those of its
@@ -28,16 +28,13 @@ pub fn write_triangle<K: Sink>(sink: &mut K, view: &RingView, offset: u32)
     requires taken { TakenBy (K.Sink.meaning sink.old) (offset_by offset (view_strips view.now)) }
     ensures { Draws K.Sink.meaning K.Sink.held (offset_by offset (view_strips view.now)) sink.old sink.new }
 {
-    write_ring(sink, view, offset);
-    let mut inner = view.inner;
-    let mut depth = view.depth;
-    while let TriangleContents::More(i) = inner {
-        depth -= 1;
-        let ring = ring_view(view.rings, i, depth);
+    let mut ring = *view;
+    write_ring(sink, &ring, offset);
+    while let TriangleContents::More(i) = ring.inner {
+        ring = ring_view(ring.rings, i, ring.depth - 1);
         write_ring(sink, &ring, offset);
-        inner = ring.inner;
     }
-    if let TriangleContents::Six { ab, bc, ca, .. } = inner {
+    if let TriangleContents::Six { ab, bc, ca, .. } = ring.inner {
         write_one(sink, &[ab, bc, ca, ab], offset);
     }
 }

@@ -1,34 +1,24 @@
-use Rattle.std.proofs.Common.{◌≡◌, ◌+◌, ◌*◌, ◌≤◌, length, arith}
-use Rattle.pattern.specs.Amounts.{triangle_face_count}
+use Rattle.std.proofs.Common.{length, arith, rules}
 use Rattle.rings.specs.Slices.{read}
-use Rattle.faces.specs.Viewed.{own_faces, inner_faces}
 use Rattle.faces.proofs.Counting.{view_lengths}
-use Rattle.faces.proofs.Writing.{glue, as_long}
+use Rattle.faces.proofs.Writing.{glue, long_buffer}
 use Rattle.faces.proofs.triangle.write_triangle.Goals as goal
 
-pub write_ring-next-requires : goal.write_ring-next-requires
-write_ring-next-requires c =
+pub write_contents-requires-clause-room : goal.write_contents-requires-clause-room
+write_contents-requires-clause-room c =
     let w = c.args.view.now in
-    let m = length (read w.ab) in
-    let l : length (own_faces w) + length (inner_faces w) ≡ triangle_face_count m = view_lengths m w c.requires.whole in
-    let r : c.args.at + 3 * triangle_face_count m ≤ length c.args.out.now = c.requires.room in
-    record { whole = c.requires.whole; room = omega arith }
+    let l = view_lengths (length (read w.ab)) w c.requires.whole in
+    omega (arith, long_buffer c.write_ring.ensures, c.write_ring.ensures.wrote.next_is)
 
-pub write_contents-requires : goal.write_contents-requires
-write_contents-requires c =
-    let w = c.args.view.now in
-    let m = length (read w.ab) in
-    let l : length (own_faces w) + length (inner_faces w) ≡ triangle_face_count m = view_lengths m w c.requires.whole in
-    let r : c.args.at + 3 * triangle_face_count m ≤ length c.args.out.now = c.requires.room in
-    let e : length c.write_ring-next.new.out ≡ length c.args.out.now = as_long c.write_ring-next.ensures in
-    let q : c.write_ring-next.result ≡ c.args.at + 3 * length (own_faces w) = c.write_ring-next.ensures.next_is in
-    record { fits = (m, c.requires.whole.goes); room = omega arith }
+pub returns-clause-wrote : goal.returns-clause-wrote
+returns-clause-wrote c =
+    let h = glue c.write_ring.ensures c.write_contents.ensures in
+    let w = h.wrote in
+    let n = h.same_buffer in
+    search rules
 
-pub returns : goal.returns
-returns c =
+pub returns-clause-next : goal.returns-clause-next
+returns-clause-next c =
     let w = c.args.view.now in
-    let m = length (read w.ab) in
-    let l : length (own_faces w) + length (inner_faces w) ≡ triangle_face_count m = view_lengths m w c.requires.whole in
-    let q : c.write_ring-next.result ≡ c.args.at + 3 * length (own_faces w) = c.write_ring-next.ensures.next_is in
-    let s : c.write_contents.result ≡ c.write_ring-next.result + 3 * length (inner_faces w) = c.write_contents.ensures.next_is in
-    record { wrote = glue c.write_ring-next.ensures c.write_contents.ensures; next = omega arith }
+    let l = view_lengths (length (read w.ab)) w c.requires.whole in
+    omega (arith, c.write_ring.ensures.wrote.next_is, c.write_contents.ensures.wrote.next_is)

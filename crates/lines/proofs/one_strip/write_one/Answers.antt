@@ -1,6 +1,9 @@
-use Rattle.lines.proofs.Drawing.{strip_drawn}
+use Rattle.std.proofs.Common.{rules}
+use Rattle.lines.proofs.Drawing.{strip_accepted}
 use Rattle.lines.proofs.one_strip.write_one.Goals as goal
 
-pub returns : goal.returns
-returns g c =
-    strip_drawn c.args.offset c.args.numbers.now c.args.sink.now c.write_strip.new.sink c.write_strip.result c.requires c.write_strip.ensures
+pub unwrap-requires : goal.unwrap-requires
+unwrap-requires g c =
+    let e = strip_accepted (g.K.Sink.meaning c.args.sink.now) c.args.offset c.args.numbers.now c.requires in
+    let f = c.write_strip.ensures.answers in
+    search rules

@@ -1,4 +1,0 @@
-use Rattle.faces.proofs.triangle.+write_contents.Given as goal
-
-abbrev pub decreases-write_contents : goal.decreases-write_contents
-decreases-write_contents l = l.view.now.depth
