@@ -63,12 +63,12 @@ module _
       }
 
   -- triangle i steps
-  module _ (rs2 : List Ring) (x : TriangleContents) (h2 : ℕ) (p : i < length ts) (q : length ts ≤ 32) (l : h ≤ 4512) (s : Steps rs1 (3 * i) 3 k (kind_at ts1 i) h1 rs2 x h2) where
+  module _ (rs2 : List Ring) (x : TriangleContents) (h2 : ℕ) (p : i < length ts) (q : length ts ≤ 32) (l : h ≤ 4512) (s : Steps rs1 (3 * i) k (kind_at ts1 i) h1 rs2 x h2) where
     ready : Ready rs1 (3 * i) 3 m k (kind_at ts1 i) h1
     ready = stepped_ready p q l
 
     moves : Moves rs1 (3 * i) 3 m k (kind_at ts1 i) h1 rs2 x h2
-    moves = s m ready
+    moves = s 3 m ready
 
     abbrev ts2 : List TriangleContents
     ts2 = set ts1 i x

@@ -37,9 +37,9 @@ module _ (rs : List Ring) (b d m k : ℕ) (t : TriangleContents) (h : ℕ) (r : 
 
   pub moves_more :
       (j : ℕ) (rs1 : List Ring) (t1 : TriangleContents) (h1 : ℕ) (rs2 : List Ring) (t2 : TriangleContents) (h2 : ℕ) → j < k
-      → Moves rs b d m j t h rs1 t1 h1 → Steps rs1 b d 1 t1 h1 rs2 t2 h2 → Moves rs b d m (j + 1) t h rs2 t2 h2
+      → Moves rs b d m j t h rs1 t1 h1 → Steps rs1 b 1 t1 h1 rs2 t2 h2 → Moves rs b d m (j + 1) t h rs2 t2 h2
   moves_more j rs1 t1 h1 rs2 t2 h2 p v s =
-      let u : Moves rs1 b d (m + j) 1 t1 h1 rs2 t2 h2 = s (m + j) (moves_ready j rs1 t1 h1 p v) in
+      let u : Moves rs1 b d (m + j) 1 t1 h1 rs2 t2 h2 = s d (m + j) (moves_ready j rs1 t1 h1 p v) in
       let g : NumberedContents = held rs d t in
       let e : suc j ≡ j + 1 = omega arith in
       let count : m + j + 1 ≡ m + (j + 1) = omega arith in

@@ -113,14 +113,14 @@ first_read rs i d m h x r =
     get_or_default rs i x no_ring (omega arith)
 
 module _ (rs rs1 : List Ring) (i d m h h' : ℕ) (t : TriangleContents) (x : Ring)
-    (s : Steps rs (i + 1) (d - 1) 1 (get_or rs i x).inner (h + 3) rs1 t h') (r : Ready rs i d m 1 (kind.More i) h) where
-  pub inner_steps : Steps rs (i + 1) (d - 1) 1 (ring_at rs i).inner (h + 3) rs1 t h'
-  inner_steps = subst (λ (g : Ring). Steps rs (i + 1) (d - 1) 1 g.inner (h + 3) rs1 t h') (first_read rs i d m h x r) s
+    (s : Steps rs (i + 1) 1 (get_or rs i x).inner (h + 3) rs1 t h') (r : Ready rs i d m 1 (kind.More i) h) where
+  pub inner_steps : Steps rs (i + 1) 1 (ring_at rs i).inner (h + 3) rs1 t h'
+  inner_steps = subst (λ (g : Ring). Steps rs (i + 1) 1 g.inner (h + 3) rs1 t h') (first_read rs i d m h x r) s
 
   -- after its inner contents stepped it is as it was
   pub then_read : (y : Ring) → get_or rs1 i y ≡ ring_at rs i
   then_read y =
-      let v = inner_steps (side_len (ring_at rs i)) (more_ready rs i d m h r) in
+      let v = inner_steps (d - 1) (side_len (ring_at rs i)) (more_ready rs i d m h r) in
       let long = v.long in
       let room = r.placed.room in
       let some = some_deep rs i d m h r in
@@ -141,7 +141,7 @@ with_inner g t = record { a = g.a; b = g.b; c = g.c; sides = g.sides; inner = t 
 
 pub more_moves :
     (rs rs1 : List Ring) (i d m h h' : ℕ) (g : Ring) (t : TriangleContents) → LongerRing (ring_at rs i) h g
-    → Steps rs (i + 1) (d - 1) 1 (ring_at rs i).inner (h + 3) rs1 t h' → Ready rs i d m 1 (kind.More i) h
+    → Steps rs (i + 1) 1 (ring_at rs i).inner (h + 3) rs1 t h' → Ready rs i d m 1 (kind.More i) h
     → Moves rs i d m 1 (kind.More i) h (set rs1 i (with_inner g t)) (kind.More i) h'
 more_moves rs rs1 i zero m h h' g t l s r = absurd r.placed.own
 more_moves rs rs1 i (suc d) m h h' g t l s r =
@@ -156,7 +156,7 @@ more_moves rs rs1 i (suc d) m h h' g t l s r =
     let free : h + 3 ≡ suc (suc (suc h)) = omega arith in
     let v : Moves rs (suc i) d L 1 (ring_at rs i).inner (suc (suc (suc h))) rs1 t h'
     = subst (λ (x : ℕ × ℕ × ℕ). Moves rs x.0 x.1 L 1 (ring_at rs i).inner x.2 rs1 t h')
-    (λ j. (next j, less j, free j)) (s L (more_ready rs i (suc d) m h r)) in
+    (λ j. (next j, less j, free j)) (s (suc d - 1) L (more_ready rs i (suc d) m h r)) in
     let within : i < length rs1 = omega (arith, f.0, v.long) in
     let equal : Equal (ring_at rs i) = r.placed.equal i f.0 in
     let long : length g.sides.items ≡ 3 * (L + 1) = ap length l.sides_are ∙ longer (ring_at rs i).sides.items L h (suc h) (suc (suc h)) equal in

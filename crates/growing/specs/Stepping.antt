@@ -23,6 +23,6 @@ pub record Moves (rs : List Ring) (b d m k : ℕ) (t : TriangleContents) (h : �
   -- no ring of others is changed
   pub others : (i : ℕ) → (i < b) ⊎ (b + d ≤ i) → ring_at rs' i ≡ ring_at rs i
 
--- the same at every count from which the steps can be taken
-abbrev pub Steps : List Ring → (b d k : ℕ) → TriangleContents → (h : ℕ) → List Ring → TriangleContents → (h' : ℕ) → Type 0
-Steps rs b d k t h rs' t' h' = (m : ℕ) → Ready rs b d m k t h → Moves rs b d m k t h rs' t' h'
+-- the same for every count of rings and of edge vertices from which the steps can be taken
+abbrev pub Steps : List Ring → (b k : ℕ) → TriangleContents → (h : ℕ) → List Ring → TriangleContents → (h' : ℕ) → Type 0
+Steps rs b k t h rs' t' h' = (d m : ℕ) → Ready rs b d m k t h → Moves rs b d m k t h rs' t' h'

@@ -22,12 +22,12 @@ fn six(a: u32, b: u32, c: u32, next: u32) -> TriangleContents
 
 // One step of a ring: its inner contents step, and its sides become longer.
 #[cycle(step_step_ring)]
-fn step_ring(rings: &mut [Ring], i: usize, depth: usize, next: u32) -> u32
-    requires { (m : ℕ) × Ready rings.old i depth m 1 (TriangleContents.More i) next }
-    ensures { Steps rings.old i depth 1 (TriangleContents.More i) next rings.new (TriangleContents.More i) result }
+fn step_ring(rings: &mut [Ring], i: usize, next: u32) -> u32
+    requires { (d : ℕ) × (m : ℕ) × Ready rings.old i d m 1 (TriangleContents.More i) next }
+    ensures { Steps rings.old i 1 (TriangleContents.More i) next rings.new (TriangleContents.More i) result }
 {
     let mut inner = rings[i].inner;
-    let after = step(&mut inner, rings, i + 1, depth - 1, next + 3);
+    let after = step(&mut inner, rings, i + 1, next + 3);
     let ring = &mut rings[i];
     lengthen_ring(ring, next);
     ring.inner = inner;
@@ -35,19 +35,13 @@ fn step_ring(rings: &mut [Ring], i: usize, depth: usize, next: u32) -> u32
 }
 
 // Changes the contents in place by their kind, where `next` is the next free vertex; the answer is the
-// next free one after that. The contents own `depth` rings from number `at` on, and the inner contents of
-// a ring own those after it.
+// next free one after that. The contents own rings from number `at` on, and the inner contents of a ring
+// own those after it.
 // No struct holds the parameters: each of them but the table is another one ring further in.
 #[cycle(step_step_ring)]
-pub(crate) fn step(
-    contents: &mut TriangleContents,
-    rings: &mut [Ring],
-    at: usize,
-    depth: usize,
-    next: u32,
-) -> u32
-    requires { (m : ℕ) × Ready rings.old at depth m 1 contents.old next }
-    ensures { Steps rings.old at depth 1 contents.old next rings.new contents.new result }
+pub(crate) fn step(contents: &mut TriangleContents, rings: &mut [Ring], at: usize, next: u32) -> u32
+    requires { (d : ℕ) × (m : ℕ) × Ready rings.old at d m 1 contents.old next }
+    ensures { Steps rings.old at 1 contents.old next rings.new contents.new result }
 {
     match *contents {
         TriangleContents::None => {
@@ -75,6 +69,6 @@ pub(crate) fn step(
             *contents = TriangleContents::More(at);
             next + 4
         }
-        TriangleContents::More(i) => step_ring(rings, i, depth, next),
+        TriangleContents::More(i) => step_ring(rings, i, next),
     }
 }

@@ -6,7 +6,7 @@ ghost use Rattle.growing.specs.SteppingAll.{ReadyAll, StepsAll};
 use crate::step::step;
 use rings::contents::{Ring, TriangleContents};
 
-// As many steps as `count` of contents that own three rings from number `at` on, where `next` is the next
+// As many steps as `count` of contents that own rings from number `at` on, where `next` is the next
 // free vertex; the answer is the next free one after them.
 fn steps(
     contents: &mut TriangleContents,
@@ -15,12 +15,12 @@ fn steps(
     count: usize,
     next: u32,
 ) -> u32
-    requires { (m : ℕ) × Ready rings.old at 3 m count contents.old next }
-    ensures { Steps rings.old at 3 count contents.old next rings.new contents.new result }
+    requires { (d : ℕ) × (m : ℕ) × Ready rings.old at d m count contents.old next }
+    ensures { Steps rings.old at count contents.old next rings.new contents.new result }
 {
     let mut free = next;
     for _ in 0..count {
-        free = step(contents, rings, at, 3, free);
+        free = step(contents, rings, at, free);
     }
     free
 }

@@ -1,5 +1,5 @@
 -- A sound table stays sound when it grows.
-use Rattle.std.proofs.Common.{◌≡◌, ℕ, ◌+◌, ◌≤◌, ◌⊎◌, List, length, sym, subst, inl, inr}
+use Rattle.std.proofs.Common.{◌≡◌, ℕ, ◌+◌, ◌≤◌, ◌⊎◌, List, length, vec_items, vec_len, sym, subst, inl, inr}
 use mathlib.Core.Logic.{∥∥₁_elim, ∥∥₁_map}
 use native.Mathlib.Bridge.{le_prop}
 use Rattle.growing.specs.declared.edge.Edge.{Edge}
@@ -10,6 +10,7 @@ use Rattle.rings.specs.declared.contents.TriangleContents.{TriangleContents}
 use Rattle.shape.specs.declared.triangle.Triangle.{Triangle}
 use Rattle.shape.specs.Questions.{Accepted}
 use Rattle.table.specs.declared.forward.Forward.{Forward}
+use Rattle.table.specs.declared.table.Table.{Table}
 use Rattle.table.specs.Sound.{Sound, NoBase}
 use Rattle.table.proofs.Facts as facts
 use Rattle.table.proofs.Propositions.{stands_prop, limits_prop}
@@ -47,12 +48,26 @@ module _ (P : ℕ) (ts : List Triangle) (fs : List Forward) (es : List Edge) (cs
     sound_grown few st S = ∥∥₁_map S (grown_sound few st)
 
 -- three lists at once
-pub numbering_same :
-    (n total : ℕ) (es es' : List Edge) (cs cs' : List TriangleContents) (rs rs' : List Ring) → es ≡ es' → cs ≡ cs' → rs ≡ rs'
-    → numbering n total es cs rs ≡ numbering n total es' cs' rs'
-numbering_same n total es es' cs cs' rs rs' p q r = λ i. numbering n total (p i) (q i) (r i)
-
 pub stands_same :
     (n : ℕ) (es es' : List Edge) (cs cs' : List TriangleContents) (rs rs' : List Ring) → es ≡ es' → cs ≡ cs' → rs ≡ rs'
     → Stands n es cs rs → Stands n es' cs' rs'
 stands_same n es es' cs cs' rs rs' p q r s = coe 0 1 (i. Stands n (p i) (q i) (r i)) s
+
+module _ (t : Table) where
+  pub small : t.n ≤ 12
+  small =
+      few (vec_len t.points) (vec_items t.triangles) (vec_items t.forward) (vec_items t.edges) (vec_items t.contents) (vec_items t.rings) t.n t.total t.sound
+
+  -- what subdividing asks for, of the lists as they are read
+  module _ (es : List Edge) (cs : List TriangleContents) (rs : List Ring) (p : es ≡ vec_items t.edges) (q : cs ≡ vec_items t.contents) (r : rs ≡ vec_items t.rings) where
+    pub stands_read : Stands t.n es cs rs
+    stands_read =
+        stands_same t.n (vec_items t.edges) es (vec_items t.contents) cs (vec_items t.rings) rs (sym p) (sym q) (sym r)
+        (stands (vec_len t.points) (vec_items t.triangles) (vec_items t.forward) (vec_items t.edges) (vec_items t.contents) (vec_items t.rings) t.n t.total
+        t.sound)
+
+    pub limits_read : WithinLimits (length es) (length cs) t.total
+    limits_read =
+        subst (λ (m : ℕ × ℕ). WithinLimits m.0 m.1 t.total) (λ j. (length (sym p j), length (sym q j)))
+        (limits (vec_len t.points) (vec_items t.triangles) (vec_items t.forward) (vec_items t.edges) (vec_items t.contents) (vec_items t.rings) t.n t.total
+        t.sound)

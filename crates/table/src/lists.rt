@@ -8,6 +8,7 @@ use shape::triangle::Triangle;
 use std::alloc::{AllocError, Global};
 
 // The list of so many elements that `at` answers from.
+// A loop and not `collect`, so that all places are taken before the first element.
 fn listed<T: Drop, F: Fn(usize) -> Option<T>>(
     heap: Global,
     count: usize,

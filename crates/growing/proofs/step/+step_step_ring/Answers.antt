@@ -11,28 +11,30 @@ pub step_ring-step-after-requires : goal.step_ring-step-after-requires
 step_ring-step-after-requires t c =
     let rs = c.args.rings.now in
     let i = c.args.i in
-    let d = c.args.depth in
+    let d = c.requires.0 in
+    let m = c.requires.1 in
+    let r = c.requires.2 in
     let h = c.args.next in
     let L = side_len (ring_at rs i) in
-    let some : 1 ≤ d = some_deep rs i d c.requires.0 h c.requires.1 in
-    let e = first_read rs i d c.requires.0 h c.index-rings-i.result c.requires.1 in
-    (search rules, (L, subst (λ (g : Ring). Ready rs (i + 1) (d - 1) L 1 g.inner (h + 3)) (sym e) (more_ready rs i d c.requires.0 h c.requires.1)))
+    let some : 1 ≤ d = some_deep rs i d m h r in
+    let e = first_read rs i d m h c.index-rings-i.result r in
+    (search rules, (d - 1, L, subst (λ (g : Ring). Ready rs (i + 1) (d - 1) L 1 g.inner (h + 3)) (sym e) (more_ready rs i d m h r)))
 
 pub step_ring-lengthen_ring-requires : goal.step_ring-lengthen_ring-requires
 step_ring-lengthen_ring-requires t c =
     let rs = c.args.rings.now in
-    let m = c.requires.0 in
-    let r = c.requires.1 in
-    let e = then_read rs c.step-after.new.rings c.args.i c.args.depth m c.args.next c.step-after.result c.step-after.new.contents
+    let d = c.requires.0 in
+    let m = c.requires.1 in
+    let r = c.requires.2 in
+    let e = then_read rs c.step-after.new.rings c.args.i d m c.args.next c.step-after.result c.step-after.new.contents
     c.index-rings-i.result c.step-after.ensures r c.index-rings-i-2.result in
-    (subst (λ (g : Ring). length g.sides.items ≤ 24) (sym e) (few_sides rs c.args.i c.args.depth m c.args.next r), let f = r.free in omega arith)
+    (subst (λ (g : Ring). length g.sides.items ≤ 24) (sym e) (few_sides rs c.args.i d m c.args.next r), let f = r.free in omega arith)
 
 pub step_ring-returns : goal.step_ring-returns
-step_ring-returns t c m r =
+step_ring-returns t c d m r =
     let rs = c.args.rings.now in
     let rs1 = c.step-after.new.rings in
     let i = c.args.i in
-    let d = c.args.depth in
     let h = c.args.next in
     let after = c.step-after.result in
     let inner = c.step-after.new.contents in

@@ -7,6 +7,7 @@ steps-free-requires c =
     let m = c.requires.ready.0 in
     let r = c.requires.ready.1 in
     let p : c.loop-i.i < length c.args.contents.now = omega arith in (
+      3,
       m,
       stepped_ready c.args.rings.now m c.args.count c.args.contents.now c.args.next c.loop-i.i c.loop-i.rings c.loop-i.contents
           c.loop-i.free r (c.loop-i.invariant m r) p c.requires.few.0 c.requires.few.1,
