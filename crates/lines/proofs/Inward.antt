@@ -40,7 +40,7 @@ within w v m i is fits shows =
       strips =
           ap₂ (λ n t. contents_strips (held_view rs n t)) deep is
           ∙ sym (ap₂ (λ l ls. l ∷ ls)
-          (ap (λ n. ring_strip n (ring_of_view v)) shows.ab_long ∙ strip_agree (ring_of_view v) (table_ring rs d i) g.len (shown_agrees rs d i v shows))
+          (ap (λ n. ring_strip n (ring_of_view v)) shows.ab_long ∙ strip_agree (ring_of_view v) (table_ring rs d i) (side_len g) (shown_agrees rs d i v shows))
           (ap contents_strips (shown_inside rs d i v shows)));
     }
 
