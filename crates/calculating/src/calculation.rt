@@ -9,7 +9,7 @@ use point::Vec3A;
 use rings::slice::Slice;
 use shape::base_shape::BaseShape;
 
-// A vertex, and the two vertices that it lies halfway between.
+// A vertex, and the two vertices that it lies halfway between. The one loop that reads the tuple names its parts.
 pub(crate) type Middle = (u32, u32, u32);
 
 // A base, by whose rules points are calculated, and the lent points of all vertices.

@@ -21,6 +21,7 @@ impl<'a> FaceWriter<'a> {
     {
         self.write(&tips(view, m - 1));
         self.write(&heels(view, m - 1));
+        // By position, which is what the formula of the pairs takes.
         for i in 0..m - 2 {
             self.write(&pairs(view, i));
         }

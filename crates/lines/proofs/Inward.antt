@@ -35,12 +35,13 @@ within w v m i is fits shows =
     let named : Fits rs w.depth m (kind.More i) = subst (λ (t : TriangleContents). Fits rs w.depth m t) is fits in
     let deep : w.depth ≡ suc d = deeper rs w.depth m i named in
     let f : Fits rs (suc d) m (kind.More i) = subst (λ (n : ℕ). Fits rs n m (kind.More i)) deep named in
+    let agree = shown_agrees rs d i v shows in
     record {
       whole = whole_shown rs d i v shows f.3 f.4;
       strips =
           ap₂ (λ n t. contents_strips (held_view rs n t)) deep is
           ∙ sym (ap₂ (λ l ls. l ∷ ls)
-          (ap (λ n. ring_strip n (ring_of_view v)) shows.ab_long ∙ strip_agree (ring_of_view v) (table_ring rs d i) (side_len g) (shown_agrees rs d i v shows))
+          (ap (λ n. ring_strip n (ring_of_view v)) shows.ab_long ∙ strip_agree (ring_of_view v) (table_ring rs d i) agree.inners (side_len g) agree.edges)
           (ap contents_strips (shown_inside rs d i v shows)));
     }
 

@@ -16,6 +16,7 @@ fn run(strip: &mut Strip, view: &RingView, side: Side, n: usize)
     ensures items { Extends strip.old (up 0 n (λ i. inner_at side (ring_of_view view.now) i ∷ [])) strip.new }
     ensures len { array_vec_len strip.new ≡ array_vec_len strip.old + n }
 {
+    // By position, since the contents are no slice.
     for i in 0..n {
         strip.push(view.inner(side, i));
     }
@@ -28,6 +29,7 @@ fn zigzag(strip: &mut Strip, view: &RingView, side: Side, last: usize)
     ensures items { Extends strip.old (zigzag last (edge_at side (ring_of_view view.now)) (inner_at side (ring_of_view view.now))) strip.new }
     ensures len { array_vec_len strip.new ≡ array_vec_len strip.old + (2 * last + 1) }
 {
+    // By position, since neither the edge nor the contents are one slice.
     for i in (0..last).rev() {
         strip.push(view.edge(side, i + 1));
         strip.push(view.inner(side, i));
