@@ -6,6 +6,13 @@ use Rattle.faces.proofs.Inward.{Within, within}
 use Rattle.faces.proofs.Writing.{glue, renamed, long_buffer}
 use Rattle.faces.proofs.writer.FaceWriter.+write_contents.Goals as goal
 
+pub write_ring-requires-clause-room : goal.write_ring-requires-clause-room
+write_ring-requires-clause-room t c =
+    let f = c.requires.fits in
+    let h : Within c.args.view.now c.ring_view-ring.result =
+    within c.args.view.now c.ring_view-ring.result f.0 c.in-More.i c.in-More.is f.1 c.ring_view-ring.ensures in
+    omega (arith, h.lengths)
+
 pub write_contents-requires : goal.write_contents-requires
 write_contents-requires t c =
     let w = c.args.view.now in
