@@ -28,7 +28,7 @@ impl<'a, 'b, S: BaseShape> Calculation<'a, 'b, S> {
         ]);
     }
 
-    // The vertices of the edges ab, bc, ca.
+    // The vertices of the edges ab, bc, ca, each with its own ends.
     fn put_edges(&mut self, view: &RingView)
         requires whole { Whole (length (read view.now.ab)) view.now }
         requires below { Below (length self.old.points.now) view.now }

@@ -195,32 +195,26 @@ fn refused(rt: &impl Abort, list: &[u32]) -> Result<Refusal, Fail> {
 
 #[test]
 fn refused_listings_leave_the_points(rt: HostRuntime) -> Result<(), Fail> {
-    assert!(rt;
-        matches!(
-            refused(&rt, &[0, 6])?,
-            Refusal::InvalidListing {
-                listed: 2,
-                points: 6
-            }
-        )
+    assert_eq!(rt;
+        refused(&rt, &[0, 6])?,
+        Refusal::InvalidListing {
+            listed: 2,
+            points: 6
+        }
     );
-    assert!(rt;
-        matches!(
-            refused(&rt, &[4_294_967_295])?,
-            Refusal::InvalidListing {
-                listed: 1,
-                points: 6
-            }
-        )
+    assert_eq!(rt;
+        refused(&rt, &[4_294_967_295])?,
+        Refusal::InvalidListing {
+            listed: 1,
+            points: 6
+        }
     );
-    assert!(rt;
-        matches!(
-            refused(&rt, &[0; 3361])?,
-            Refusal::InvalidListing {
-                listed: 3361,
-                points: 6
-            }
-        )
+    assert_eq!(rt;
+        refused(&rt, &[0; 3361])?,
+        Refusal::InvalidListing {
+            listed: 3361,
+            points: 6
+        }
     );
     assert_eq!(rt; refused(&rt, &[0; 3361])?.number(), 16);
     Ok(())

@@ -9,7 +9,6 @@ use shape::list_base::ListBase;
 use shape::square_base::SquareBase;
 use shape::triangle::Triangle;
 use shape::triangle_base::TriangleBase;
-use std::test::Fail;
 
 const ORIGIN: Vec3A = Vec3A {
     x: 0.0,
@@ -28,15 +27,20 @@ const fn tri(a: u32, b: u32, c: u32, ab: usize, bc: usize, ca: usize) -> Triangl
     }
 }
 
-// The verdict as a number and a triangle, 0 and 0 where the base is accepted.
-fn verdict(points: usize, edges: usize, triangles: &[Triangle]) -> (u8, usize) {
+// The verdict on a base with so many points at the origin.
+fn check(points: usize, edges: usize, triangles: &[Triangle]) -> Result<(), Refusal> {
     let all = [ORIGIN; 128];
     let points = &all[0..points.min(128)];
-    match check_shape(&ListBase {
+    check_shape(&ListBase {
         points,
         triangles,
         edges,
-    }) {
+    })
+}
+
+// The verdict as a number and a triangle, 0 and 0 where the base is accepted.
+fn verdict(points: usize, edges: usize, triangles: &[Triangle]) -> (u8, usize) {
+    match check(points, edges, triangles) {
         Ok(()) => (0, 0),
         Err(refusal) => (refusal.number(), refusal.triangle()),
     }
@@ -125,39 +129,17 @@ fn each_question_is_put_to_all_triangles_before_the_next(rt: HostRuntime) {
 }
 
 #[test]
-fn the_first_unused_edge_or_point_is_named(rt: HostRuntime) -> Result<(), Fail> {
-    let all = [ORIGIN; 5];
-    let triangles = [tri(0, 1, 3, 0, 1, 3)];
-    let Err(e) = check_shape(&ListBase {
-        points: &all,
-        triangles: &triangles,
-        edges: 5,
-    }) else {
-        return Err(Fail::new("accepted"));
-    };
-    assert!(rt;
-        matches!(
-            e,
-            Refusal::Unused {
-                unused: Unused::Edge(2)
-            }
-        )
+fn the_first_unused_edge_or_point_is_named(rt: HostRuntime) {
+    assert_eq!(rt;
+        check(5, 5, &[tri(0, 1, 3, 0, 1, 3)]),
+        Err(Refusal::Unused {
+            unused: Unused::Edge(2)
+        })
     );
-    let triangles = [tri(0, 1, 3, 0, 1, 2)];
-    let Err(e) = check_shape(&ListBase {
-        points: &all,
-        triangles: &triangles,
-        edges: 3,
-    }) else {
-        return Err(Fail::new("accepted"));
-    };
-    assert!(rt;
-        matches!(
-            e,
-            Refusal::Unused {
-                unused: Unused::Point(2)
-            }
-        )
+    assert_eq!(rt;
+        check(5, 3, &[tri(0, 1, 3, 0, 1, 2)]),
+        Err(Refusal::Unused {
+            unused: Unused::Point(2)
+        })
     );
-    Ok(())
 }

@@ -1,25 +1,12 @@
 // The formulas of a ring's faces, each along one side and in its turns along the other two.
 ghost use Rattle.std.specs.Prelude.{◌≡◌, ℕ, ◌+◌, ◌≤◌};
 ghost use Rattle.pattern.specs.Ring.{tips, heels, pairs};
-ghost use Rattle.rings.specs.Views.{ring_of_view, corner_at, Opens};
+ghost use Rattle.rings.specs.Views.{ring_of_view, Opens};
 ghost use Rattle.faces.specs.Formulas.{previous_side, ends_after};
 
 use crate::writer::Face;
-use rings::contents::Side;
+use rings::contents::{SIDES, Side};
 use rings::ring_view::RingView;
-
-const SIDES: [Side; 3] = [Side::Ab, Side::Bc, Side::Ca];
-
-// The corner where a side starts.
-fn corner(view: &RingView, side: Side) -> u32
-    ensures { result ≡ corner_at side (ring_of_view view.now) }
-{
-    match side {
-        Side::Ab => view.a,
-        Side::Bc => view.b,
-        Side::Ca => view.c,
-    }
-}
 
 // The side that ends where `side` starts.
 fn previous(side: Side) -> Side
@@ -37,7 +24,7 @@ pub(crate) fn tips(view: &RingView, last: usize) -> [Face; 3]
     ensures { result ≡ tips last (ring_of_view view.now) }
 {
     SIDES.map(|side| (
-        corner(view, side),
+        side.pick(view.a, view.b, view.c),
         view.edge(side, 0),
         view.edge(previous(side), last),
     ))

@@ -6,7 +6,7 @@ ghost use Rattle.rings.specs.Views.{edge_at, inner_at, ring_of_view, Opens};
 ghost use Rattle.lines.specs.ViewStrips.{own_strip, WholeView};
 
 use crate::strip::Strip;
-use rings::contents::Side;
+use rings::contents::{SIDES, Side};
 use rings::ring_view::RingView;
 
 // Positions 0 to n - 1 of one side of the contents.
@@ -49,9 +49,8 @@ fn strip_of_two(view: &RingView) -> [u32; 10]
     ensures { result ≡ ring_strip 2 (ring_of_view view.now) }
 {
     let x = view.inner(Side::Ab, 0);
-    let sides = [Side::Ab, Side::Bc, Side::Ca];
-    let [ab0, bc0, ca0] = sides.map(|side| view.edge(side, 0));
-    let [ab1, bc1, ca1] = sides.map(|side| view.edge(side, 1));
+    let [ab0, bc0, ca0] = SIDES.map(|side| view.edge(side, 0));
+    let [ab1, bc1, ca1] = SIDES.map(|side| view.edge(side, 1));
     [x, ab1, bc0, x, bc1, ca0, x, ca1, ab0, x]
 }
 
@@ -61,7 +60,7 @@ fn strip_of_more(strip: &mut Strip, view: &RingView, m: usize)
     requires opens { Opens (m - 1) view.now }
     ensures { Extends strip.old (ring_strip m (ring_of_view view.now)) strip.new }
 {
-    for side in [Side::Ab, Side::Bc, Side::Ca] {
+    for side in SIDES {
         run(strip, view, side, m - 2);
     }
     strip.push(view.inner(Side::Ab, 0));

@@ -63,7 +63,8 @@ impl Vec3A {
         }
     }
 
-    // Whether the two are equal by the bits of their components, all NaN alike: -0 is not 0.
+    // Whether the two are equal by the bits of their components, all NaN alike: -0 is not 0. No derived `==`
+    // says so, since that of floats takes -0 for 0 and no NaN for itself.
     pub fn same_bits(self, other: Vec3A) -> bool
         ensures sound { result ≡ true → self ≡ other }
         ensures complete { self ≡ other → result ≡ true }

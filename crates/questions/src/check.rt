@@ -28,7 +28,7 @@ pub fn check_shape<S: BaseShape>(base: &S) -> Result<(), Refusal>
     lists.check()
 }
 
-// The triangles of a base that has few enough.
+// The triangles of a base that has few enough. By position, which is how a base answers.
 fn triangles_of<S: BaseShape>(base: &S) -> ArrayVec<Triangle, MAX_TRIANGLES>
     requires { length (S.BaseShape.triangles base.now) ≤ 32 }
     ensures { result.items ≡ S.BaseShape.triangles base.now }

@@ -9,6 +9,7 @@ use crate::side::Side;
 use refusal::Refusal;
 use shape::triangle::Triangle;
 
+// An enum and no closures: definitions and laws speak of a question as a value.
 #[derive(Clone, Copy)]
 pub(crate) enum Question {
     // every corner below the point count, every edge number below the edge count
@@ -117,6 +118,7 @@ impl Question {
     fn first_no(self, triangles: &[Triangle]) -> Option<usize>
         ensures { result ≡ first_no self triangles.now }
     {
+        // each triangle with those before it, which no adapter hands out
         for (i, t) in triangles.iter().enumerate() {
             if !self.passes(&triangles[..i], t) {
                 return Some(i);

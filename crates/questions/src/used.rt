@@ -4,6 +4,7 @@ ghost use Rattle.questions.specs.Tests.{touches, is_used, first_lack};
 
 use shape::triangle::Triangle;
 
+// What a triangle may use. An enum and no two closures, since definitions and proofs name the two.
 #[derive(Clone, Copy)]
 pub(crate) enum Part {
     Edge,

@@ -73,7 +73,7 @@ pub enum Unused {
 }
 
 impl Refusal {
-    // The number of the question.
+    // The number of the question, by which people and docs/RULES.md name it.
     pub fn number(&self) -> u8
         ensures { result ≡ refusal_number self.now }
     {

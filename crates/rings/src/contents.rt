@@ -6,7 +6,8 @@ ghost use Rattle.rings.specs.Sides.{side_len, side_number, side_of};
 
 use arrayvec::ArrayVec;
 
-// What lies inside a triangle's edges, by kind. `More` names a ring of the table.
+// What lies inside a triangle's edges, by kind. `More` names a ring of the table and holds no `Box`, so
+// that no step allocates.
 #[derive(Clone, Copy)]
 pub enum TriangleContents {
     None,
@@ -34,6 +35,9 @@ pub enum Side {
     Bc,
     Ca,
 }
+
+// The sides, in turn.
+pub const SIDES: [Side; 3] = [Side::Ab, Side::Bc, Side::Ca];
 
 impl Side {
     // The one of the three that goes with the side.

@@ -6,7 +6,8 @@ use crate::contents::{Ring, Side, TriangleContents};
 use crate::slice::Slice;
 
 // The corners and the edges of a triangle, or of a ring of the table, and the contents inside, which
-// are at most `depth` rings deep.
+// are at most `depth` rings deep. That its edges are equally long is no invariant of it: `ring_view`
+// shows any ring, and would ask more of its callers.
 #[derive(Clone, Copy)]
 pub struct RingView<'a> {
     pub a: u32,

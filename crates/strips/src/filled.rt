@@ -1,4 +1,4 @@
-// A lent table whose first places are filled.
+// A lent table whose first places are filled. It is the caller's memory, and so no `Vec`.
 ghost use Rattle.std.specs.Prelude.{◌≡◌, ◌-◌, ◌<◌, length};
 ghost use Rattle.strips.specs.Filled.{Fills};
 
