@@ -34,14 +34,14 @@ impl Model for Draft {
 }
 
 impl Draft {
-    pub fn new(heap: Global) -> Draft
+    pub fn new(alloc: Global) -> Draft
         ensures { result ≡ empty_sheet }
     {
         Draft {
             kind: None,
             edges: None,
-            points: Vec::new(heap),
-            triangles: Vec::new(heap),
+            points: Vec::new(alloc),
+            triangles: Vec::new(alloc),
         }
     }
 

@@ -30,13 +30,13 @@ pub struct Problem {
 }
 
 impl Reader {
-    pub fn new(heap: Global) -> Reader
+    pub fn new(alloc: Global) -> Reader
         ensures lines { result.line ≡ 0 }
         ensures order { result.draft ≡ empty_sheet }
     {
         Reader {
             line: 0,
-            draft: Draft::new(heap),
+            draft: Draft::new(alloc),
         }
     }
 

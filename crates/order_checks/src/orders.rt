@@ -6,9 +6,9 @@ use std::fmt::Write;
 use std::test::Fail;
 
 // The answers to the orders in the text, and the problem that ends it.
-fn answers(heap: Global, text: &str) -> Result<String, Fail> {
-    let mut out = String::new(heap);
-    let mut reader = Reader::new(heap);
+fn answers(alloc: Global, text: &str) -> Result<String, Fail> {
+    let mut out = String::new(alloc);
+    let mut reader = Reader::new(alloc);
     for line in text.lines() {
         match reader.read(line) {
             Ok(None) => {}

@@ -27,11 +27,11 @@ fn forward_of(seen: &mut BTreeSet<usize>, t: &Triangle) -> Result<Forward, Alloc
 }
 
 // The readings of all triangles, in their order.
-pub(crate) fn forwards_of(heap: Global, triangles: &[Triangle]) -> Result<Vec<Forward>, AllocError>
+pub(crate) fn forwards_of(alloc: Global, triangles: &[Triangle]) -> Result<Vec<Forward>, AllocError>
     ensures { IfOk result (λ v. v.items ≡ forwards triangles.now) }
 {
-    let mut seen = BTreeSet::new(heap);
-    let mut list = Vec::with_capacity(heap, triangles.len())?;
+    let mut seen = BTreeSet::new(alloc);
+    let mut list = Vec::with_capacity(alloc, triangles.len())?;
     for t in triangles {
         list.push(forward_of(&mut seen, t)?)?;
     }

@@ -10,14 +10,14 @@ use std::alloc::{AllocError, Global};
 // The list of so many elements that `at` answers from.
 // A loop and not `collect`, so that all places are taken before the first element.
 fn listed<T: Drop, F: Fn(usize) -> Option<T>>(
-    heap: Global,
+    alloc: Global,
     count: usize,
     at: F,
 ) -> Result<Vec<T>, AllocError>
     requires { F.IsAlwaysCallable at }
     ensures { (l : List T) → length l ≡ count → AnswersFrom (F.post at) l → IfOk result (λ v. v.items ≡ l) }
 {
-    let mut list = Vec::with_capacity(heap, count)?;
+    let mut list = Vec::with_capacity(alloc, count)?;
     for i in 0..count {
         match at(i) {
             Some(x) => list.push(x)?,
@@ -27,17 +27,17 @@ fn listed<T: Drop, F: Fn(usize) -> Option<T>>(
     Ok(list)
 }
 
-pub(crate) fn points_of<S: BaseShape>(heap: Global, base: &S) -> Result<Vec<Vec3A>, AllocError>
+pub(crate) fn points_of<S: BaseShape>(alloc: Global, base: &S) -> Result<Vec<Vec3A>, AllocError>
     ensures { IfOk result (λ v. v.items ≡ S.BaseShape.points base.now) }
 {
-    listed(heap, base.point_count(), |i| base.point(i))
+    listed(alloc, base.point_count(), |i| base.point(i))
 }
 
 pub(crate) fn triangles_of<S: BaseShape>(
-    heap: Global,
+    alloc: Global,
     base: &S,
 ) -> Result<Vec<Triangle>, AllocError>
     ensures { IfOk result (λ v. v.items ≡ S.BaseShape.triangles base.now) }
 {
-    listed(heap, base.triangle_count(), |i| base.triangle(i))
+    listed(alloc, base.triangle_count(), |i| base.triangle(i))
 }
