@@ -1,4 +1,3 @@
-pub mod FirstNo
 pub mod Tests
 pub mod Stepwise
 pub mod Sides

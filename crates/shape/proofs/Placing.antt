@@ -1,26 +1,8 @@
 -- Interpolation along a list of vertices, place by place.
-use Rattle.std.proofs.Common.{◌≡◌, ℕ, zero, suc, ◌+◌, ◌<◌, true, ltb, ◌≢◌, List, [], ◌∷◌, length, get_or, drop, set, sym, refl, ap, ◌∙◌, add-one, arith, length-set, get_or-set_other, get_or-set_same}
-use Rattle.std.proofs.lemmas.List.{drop_more}
-use Rattle.shape.specs.Listing.{all_below, placed, Listed}
-use Rattle.shape.proofs.Booleans.{and_left, and_right}
-
-is→lt : (a b : ℕ) → ltb a b ≡ true → a < b
-is→lt a b h = grind arith
-
-pub below_yes : (xs : List ℕ) (i n d : ℕ) → i < length xs → all_below xs n ≡ true → get_or xs i d < n
-below_yes [] i n d h k = absurd (omega arith)
-below_yes (x ∷ xs) zero n d h k = is→lt x n (and_left (ltb x n) (all_below xs n) k)
-below_yes (x ∷ xs) (suc i) n d h k = let l : i < length xs = omega arith in below_yes xs i n d l (and_right (ltb x n) (all_below xs n) k)
+use Rattle.std.proofs.Common.{◌≡◌, ℕ, zero, suc, ◌+◌, ◌<◌, ◌≢◌, List, [], ◌∷◌, length, get_or, set, sym, refl, ap, ◌∙◌, arith, length-set, get_or-set_other, get_or-set_same}
+use Rattle.shape.specs.Listing.{placed, Listed}
 
 module _ {X : Type 0} (g : ℕ → X) where
-  pub placed_more :
-      (xs : List ℕ) (i : ℕ) (l : List X) (v : X) → i < length xs → v ≡ g i
-      → placed g i (drop i xs) l ≡ placed g (i + 1) (drop (i + 1) xs) (set l (get_or xs i 0) v)
-  placed_more xs i l v h e =
-      ap (λ ys. placed g i ys l) (drop_more xs i 0 h)
-      ∙ ap (λ j. placed g j (drop (i + 1) xs) (set l (get_or xs i 0) (g i))) (sym (add-one i))
-      ∙ ap (λ w. placed g (i + 1) (drop (i + 1) xs) (set l (get_or xs i 0) w)) (sym e)
-
   placed-length : (xs : List ℕ) (i : ℕ) (l : List X) → length (placed g i xs l) ≡ length l
   placed-length [] i l = refl
   placed-length (x ∷ xs) i l = placed-length xs (suc i) (set l x (g i)) ∙ length-set l x (g i)

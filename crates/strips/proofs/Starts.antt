@@ -1,6 +1,6 @@
 -- Two tables, one place longer.
-use Rattle.std.proofs.Common.{◌≡◌, ℕ, zero, suc, ◌+◌, ◌-◌, ◌<◌, ◌≤◌, T, cond, ◌&&◌, leb, ◌⊎◌, List, [], ◌∷◌, ◌++◌, length, get_or, take, drop, set, Ok, Err, sym, refl, ap, ◌∙◌, subst, ap₂, inl, inr, arith, le→leb, leb→le, le-leb, length-set}
-use Rattle.std.proofs.lemmas.List.{length-take-le, take_more_set, take-append-le, drop-append-le, take-take, get_or-set_same, get_or-set_other}
+use Rattle.std.proofs.Common.{◌≡◌, ℕ, zero, suc, ◌+◌, ◌-◌, ◌<◌, ◌≤◌, T, cond, ◌&&◌, leb, List, [], ◌∷◌, ◌++◌, length, take, drop, set, Ok, Err, sym, refl, ap, ◌∙◌, subst, ap₂, arith, le→leb, leb→le, le-leb, length-set}
+use Rattle.std.proofs.lemmas.List.{length-take-le, take_more_set, take-append-le, drop-append-le, take-take}
 use Rattle.refusal.specs.declared.Refusal.TheVariants.{SinkFull}
 use Rattle.mesh.specs.Sinks.{Pushed, Broken}
 use Rattle.strips.specs.Starts.{StartsWithin, cut_at, last_start, start_sink, both, first_of, second_of}
@@ -39,19 +39,6 @@ drop_taken (suc n) (x ∷ xs) = drop_taken n xs
 
 one_less : (n k u m : ℕ) → m ≡ n → T (leb (suc k) (n - u)) → T (leb k (m - (u + 1)))
 one_less n k u m e t = let z = leb→le (suc k) (n - u) t in le→leb k (m - (u + 1)) (omega arith)
-
--- a break's start is within, and so are the earlier ones
-pub break_within : (b : ℕ) (es : List ℕ) (u : ℕ) → b < length es → StartsWithin b es u → StartsWithin (b + 1) (set es b u) u
-break_within b es u h w k l = elim (below_or_at k b l) [
-  | inl m ↦ subst (λ (n : ℕ). n ≤ u) (sym (get_or-set_other es b k u 0 (λ q. omega (arith, q)))) (w k m)
-  | inr q ↦ subst (λ (n : ℕ). n ≤ u) (sym (ap (λ n. get_or (set es b u) n 0) q ∙ get_or-set_same es b u 0 h)) (omega arith)
-]
-  where
-    below_or_at : (k b : ℕ) → k < b + 1 → (k < b) ⊎ (k ≡ b)
-    below_or_at zero zero l = inr refl
-    below_or_at zero (suc b) l = inl (omega arith)
-    below_or_at (suc k) zero l = absurd (omega arith)
-    below_or_at (suc k) (suc b) l = elim (below_or_at k b (omega arith)) [ inl m ↦ inl (omega arith) | inr q ↦ inr (ap suc q) ]
 
 -- one place more in the one table takes a number, in the other a break
 pub start_takes :
