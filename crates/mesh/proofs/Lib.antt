@@ -17,5 +17,4 @@ pub mod Sinks
 pub mod Making
 pub mod OneMaking
 pub mod Calls
-pub mod Recorded
 pub mod Blank
