@@ -43,7 +43,7 @@ pub(crate) fn heels(view: &RingView, last: usize) -> [Face; 3]
 }
 
 // The last faces along the edges, between their positions `k` and `k + 1`. They are named one by
-// one, since the check meets each by itself then.
+// one: of the array as a whole the search gives up at a limit.
 pub(crate) fn ends(view: &RingView, k: usize) -> [Face; 3]
     requires { (k ≤ 12) × (Opens (k + 1) view.now) }
     ensures { result ≡ ends_after k (ring_of_view view.now) }

@@ -4,7 +4,7 @@ ghost use Rattle.faces.specs.Writer.{HasRoom, Writes};
 
 pub(crate) type Face = (u32, u32, u32);
 
-// A lent buffer, and its first free place.
+// A lent buffer, and its first free place: the caller's memory, and so no `Vec`.
 #[derive(Drop)]
 pub(crate) struct FaceWriter<'a> {
     pub(crate) out: &'a mut [u32],

@@ -8,7 +8,7 @@ use crate::vertices::push_range;
 use arrayvec::ArrayVec;
 
 // The vertices between the corners of an edge.
-#[derive(Drop)]
+#[derive(Clone, Drop)]
 pub struct Edge {
     pub points: ArrayVec<u32, 12>,
 }

@@ -7,7 +7,7 @@ use arrayvec::ArrayVec;
 use rings::contents::{Ring, TriangleContents};
 
 // The ring that six vertices become, with two vertices on each side and one inside it, the four new ones
-// numbered from `next` on. The other parameters are the fields of `Six`.
+// numbered from `next` on. The other parameters are the fields of `Six`; a struct of them would serve this one call.
 pub(crate) fn new_ring(a: u32, b: u32, c: u32, ab: u32, bc: u32, ca: u32, next: u32) -> Ring
     requires { next + 3 ≤ 4294967295 }
     ensures { NewRing a b c ab bc ca next result }

@@ -15,6 +15,7 @@ pub(crate) trait Word: Sized + Drop {
         ensures { writes word.now result };
 }
 
+// A body each: what `parse` gives is stated for each type by itself.
 impl Word for usize {
     ghost writes = { λ w x. x ≡ whole_number 64 w };
 

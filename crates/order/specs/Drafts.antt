@@ -95,7 +95,7 @@ Silent (Point p) = Unit {0}
 Silent (TriangleLine t) = Unit {0}
 Silent Check = ⊥
 
--- the instruction is taken and, if it is a check, answered; or it is refused, or finds no memory, which leave the sheet
+-- the instruction is taken and, if it is a check, answered; or it is refused, or there is no memory for it, and the sheet is as it was
 abbrev pub Answered : Sheet → Instruction → Result (Option Report) Fault → Sheet → Type 0
 Answered s i (Ok None) new = Silent i × (takes i s ≡ Ok new)
 Answered s i (Ok (Some r)) new = (i ≡ Check) × Checked s (Ok r) new

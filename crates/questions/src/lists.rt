@@ -49,17 +49,12 @@ impl<'a> Lists<'a> {
     fn check_used(&self) -> Result<(), Refusal>
         ensures { result ≡ used_answer self.now.points self.now.edges self.now.triangles.now }
     {
-        if let Some(edge) = first_unused(Part::Edge, self.edges, self.triangles) {
-            return Err(Refusal::Unused {
-                unused: Unused::Edge(edge),
-            });
+        let edge = first_unused(Part::Edge, self.edges, self.triangles).map(Unused::Edge);
+        let point = || first_unused(Part::Point, self.points, self.triangles).map(Unused::Point);
+        match edge.or_else(point) {
+            Some(unused) => Err(Refusal::Unused { unused }),
+            None => Ok(()),
         }
-        if let Some(point) = first_unused(Part::Point, self.points, self.triangles) {
-            return Err(Refusal::Unused {
-                unused: Unused::Point(point),
-            });
-        }
-        Ok(())
     }
 
     // The questions 4 to 9.

@@ -66,6 +66,7 @@ impl Question {
         }
     }
 
+    // The three sides one by one: a chain over them leaves its goal open.
     fn side_agrees(self, u: Side, t: &Triangle) -> bool
         ensures { result ≡ list_all (agree self (use_of u)) (uses (t.now ∷ [])) }
     {
@@ -115,10 +116,10 @@ impl Question {
     }
 
     // The first triangle at which the answer is no.
-    fn first_no(self, triangles: &[Triangle]) -> Option<usize>
+    pub(crate) fn first_no(self, triangles: &[Triangle]) -> Option<usize>
         ensures { result ≡ first_no self triangles.now }
     {
-        // each triangle with those before it, which no adapter hands out
+        // a loop, which the check follows by itself; `position` over the same pairs leaves its goal open
         for (i, t) in triangles.iter().enumerate() {
             if !self.passes(&triangles[..i], t) {
                 return Some(i);

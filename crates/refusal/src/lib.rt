@@ -98,7 +98,7 @@ impl Refusal {
         }
     }
 
-    // Of the questions 4 to 8 the smallest triangle at which they fail, of all others 0.
+    // Of the questions 4 to 8 the smallest triangle at which they fail, of all others 0, as docs/RULES.md has it.
     pub fn triangle(&self) -> usize
         ensures { result ≡ refusal_triangle self.now }
     {

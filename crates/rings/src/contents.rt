@@ -60,7 +60,7 @@ impl Side {
 }
 
 // A ring: its corners, its three sides, as long as each other, one behind another, and what lies inside.
-#[derive(Drop)]
+#[derive(Clone, Drop)]
 pub struct Ring {
     pub a: u32,
     pub b: u32,

@@ -47,7 +47,7 @@ impl<'a> RingView<'a> {
         }
     }
 
-    // Position `k` of side AB of the contents, and none beyond.
+    // Position `k` of side AB of the contents, and none beyond. The three are the crate's own names.
     pub fn idx_ab(&self, k: usize) -> Option<u32>
         requires { Named self.now }
         ensures { PositionOf pos_ab (inside self.now) k result }

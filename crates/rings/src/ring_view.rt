@@ -6,8 +6,7 @@ use crate::contents::{Ring, Side, TriangleContents};
 use crate::slice::Slice;
 
 // The corners and the edges of a triangle, or of a ring of the table, and the contents inside, which
-// are at most `depth` rings deep. That its edges are equally long is no invariant of it: `ring_view`
-// shows any ring, and would ask more of its callers.
+// are at most `depth` rings deep. That the contents fit the edges is no invariant: callers build views by hand.
 #[derive(Clone, Copy)]
 pub struct RingView<'a> {
     pub a: u32,
@@ -34,7 +33,7 @@ impl<'a> RingView<'a> {
         requires { Opens (k + 1) self.now }
         ensures { result ≡ inner_at side (ring_of_view self.now) k }
     {
-        self.idx(side, k).unwrap_or(0)
+        self.idx(side, k).unwrap()
     }
 }
 

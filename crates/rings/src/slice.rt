@@ -18,7 +18,7 @@ impl<'a> Slice<'a> {
         }
     }
 
-    // The vertex at position `k`, and 0 past the end.
+    // The vertex at position `k`, and 0 past the end; guards and no `nth`, which would walk there.
     pub fn at(&self, k: usize) -> u32
         ensures { result ≡ slice_index (read self.now) k }
     {

@@ -15,7 +15,7 @@ pub trait LinearBase {
 
     ghost triangles: { Self → List Triangle };
 
-    ghost edges: { Self → ℕ };
+    ghost edgeCount: { Self → ℕ };
 
     fn point_list(&self) -> &[Vec3A]
         ensures { result.now ≡ points self.now };
@@ -24,7 +24,7 @@ pub trait LinearBase {
         ensures { result.now ≡ triangles self.now };
 
     fn edge_count(&self) -> usize
-        ensures { result ≡ edges self.now };
+        ensures { result ≡ edgeCount self.now };
 }
 
 impl<B: LinearBase> BaseShape for B {
@@ -32,7 +32,7 @@ impl<B: LinearBase> BaseShape for B {
 
     ghost triangles = { λ s. B.triangles s };
 
-    ghost edgeCount = { λ s. B.edges s };
+    ghost edgeCount = { λ s. B.edgeCount s };
 
     ghost between = { λ _. lerped };
 

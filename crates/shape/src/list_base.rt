@@ -16,7 +16,7 @@ impl<'a> LinearBase for ListBase<'a> {
 
     ghost triangles = { λ s. s.triangles.now };
 
-    ghost edges = { λ s. s.edges };
+    ghost edgeCount = { λ s. s.edges };
 
     fn point_list(&self) -> &[Vec3A] {
         self.points

@@ -53,12 +53,13 @@ const TRIANGLES: [Triangle; 2] = [
 
 const EDGES: usize = 5;
 
+// As for the triangle but for the two lists and the count, which are all that a base of this kind is.
 impl LinearBase for SquareBase {
     ghost points = { λ _. square_points };
 
     ghost triangles = { λ _. square_triangles };
 
-    ghost edges = { λ _. 5 };
+    ghost edgeCount = { λ _. 5 };
 
     fn point_list(&self) -> &[Vec3A] {
         &POINTS

@@ -46,7 +46,7 @@ impl LinearBase for TriangleBase {
 
     ghost triangles = { λ _. triangle_triangles };
 
-    ghost edges = { λ _. 3 };
+    ghost edgeCount = { λ _. 3 };
 
     fn point_list(&self) -> &[Vec3A] {
         &POINTS

@@ -14,13 +14,16 @@ pub record Empty (s : Sink) : Type 0 where
 abbrev pub taken_or_full : Sink → ℕ → ℕ → Result (Unit {0}) Refusal
 taken_or_full s p b = cond (s.takes p b) (Ok tt) (Err (SinkFull p b))
 
--- 14 for the number that no strip holds
+-- 14 for the number that no strip holds, and else r
+abbrev pub unless_mark : ℕ → Result (Unit {0}) Refusal → Result (Unit {0}) Refusal
+unless_mark x r = cond (x == 4294967295) (Err (NumberTooLarge x)) r
+
 abbrev pub number_answer : ℕ → Result (Unit {0}) Refusal
-number_answer x = cond (x == 4294967295) (Err (NumberTooLarge x)) (Ok tt)
+number_answer x = unless_mark x (Ok tt)
 
 -- 14 for the number that no strip holds, and else 15 exactly if no number can be taken
 abbrev pub push_answer : Sink → ℕ → Result (Unit {0}) Refusal
-push_answer s x = cond (x == 4294967295) (Err (NumberTooLarge x)) (taken_or_full s 1 0)
+push_answer s x = unless_mark x (taken_or_full s 1 0)
 
 pub record Pushes {S : Type 0} (meaning : S → Sink) (held : S → List GName) (x : ℕ) (old : S) (r : Result (Unit {0}) Refusal) (new : S) : Type 0 where
   pub answers : r ≡ push_answer (meaning old) x

@@ -10,7 +10,7 @@ pub struct Filled<'a, T> {
 
 impl<'a, T: Copy> Filled<'a, T> {
     // The table with no place filled.
-    pub(crate) fn none(places: &'a mut [T]) -> Filled<'a, T>
+    pub(crate) fn empty(places: &'a mut [T]) -> Filled<'a, T>
         ensures unused { result.used ≡ 0 }
         ensures lent { (result.places.now ≡ places.old) × (result.places.ghost_name ≡ places.entry.ghost_name) }
     {

@@ -19,7 +19,7 @@ impl<'a> MarkSink<'a> {
         ensures lent { (result.strips.places.now ≡ places.old) × (result.strips.places.ghost_name ≡ places.entry.ghost_name) }
     {
         MarkSink {
-            strips: Filled::none(places),
+            strips: Filled::empty(places),
         }
     }
 

@@ -23,8 +23,8 @@ impl<'a, 'b> StartSink<'a, 'b> {
         ensures starts_lent { (result.starts.places.now ≡ starts.old) × (result.starts.places.ghost_name ≡ starts.entry.ghost_name) }
     {
         StartSink {
-            numbers: Filled::none(numbers),
-            starts: Filled::none(starts),
+            numbers: Filled::empty(numbers),
+            starts: Filled::empty(starts),
         }
     }
 

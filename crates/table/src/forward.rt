@@ -6,8 +6,8 @@ use shape::triangle::Triangle;
 use std::alloc::{AllocError, Global};
 use std::collections::BTreeSet;
 
-// Whether a triangle reads its edges forward: those that it is the first to use. A bool each, as the
-// definitions of a mesh have it.
+// Whether a triangle reads its edges forward: those that it is the first to use. A bool each:
+// an enum would be no plainer, and the definitions of a mesh have a bool.
 #[derive(Clone, Copy)]
 pub struct Forward {
     pub ab: bool,

@@ -8,7 +8,8 @@ use shape::triangle::Triangle;
 use std::alloc::{AllocError, Global};
 
 // The list of so many elements that `at` answers from.
-// A loop and not `collect`, so that all places are taken before the first element.
+// A loop over positions, which is how a base answers: with `map_while` its goals stay open, and `collect` takes
+// places one by one.
 fn listed<T: Drop, F: Fn(usize) -> Option<T>>(
     alloc: Global,
     count: usize,

@@ -9,7 +9,8 @@ use rings::contents::{Ring, TriangleContents};
 use shape::triangle::Triangle;
 
 // All lists have their places from the making on: no later call allocates.
-// The lists of triangles stay three: subdividing takes the contents as one list, and the base has the triangles as one.
+// The lists of triangles stay three: subdividing takes the contents as one list, and the readings are made of the
+// base's triangles as one.
 #[derive(Drop)]
 pub struct Table {
     pub points: Vec<Vec3A>,

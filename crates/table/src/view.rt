@@ -14,7 +14,7 @@ use rings::slice::Slice;
 const DEPTH: usize = 3;
 
 impl Table {
-    // The vertices of an edge, read forward or backward: a bool, as the definitions of a mesh have it.
+    // The vertices of an edge, read forward or backward: a bool, as `Forward` has it.
     fn edge_slice(&self, edge: usize, forward: bool) -> Slice
         requires { edge < vec_len self.now.edges }
         ensures { Reads (edge_vertices (edge_in self.now.edges.items edge)) forward result }
