@@ -1,3 +1,4 @@
+pub mod FirstNo
 pub mod Tests
 pub mod Stepwise
 pub mod Sides

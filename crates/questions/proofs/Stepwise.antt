@@ -6,7 +6,8 @@ use Rattle.shape.specs.declared.triangle.Triangle.{Triangle}
 use Rattle.shape.specs.Lists.{Each}
 use Rattle.shape.specs.Verdict.{FailsFirstAt}
 use Rattle.questions.specs.declared.question.Question.{Question}
-use Rattle.questions.specs.Tests.{passes, first_no, first_no_from}
+use Rattle.questions.specs.Tests.{passes, first_no}
+use Rattle.questions.proofs.FirstNo.{first_no_from, is_first_no}
 
 pub order : (s t : ℕ) → (s < t) ⊎ ((s ≡ t) ⊎ (t < s))
 order s t = go (dec_le (suc s) t) (dec_le (suc t) s)
@@ -89,7 +90,8 @@ module _ {Q : List Triangle → Type 0} {D : Triangle → Type 0} (q : Question)
           }
 
   pub first_no_lem : (ts : List Triangle) → Each D ts → FirstAnswer Q ts (first_no q ts)
-  first_no_lem ts d = found [] ts d S.start (λ s h. absurd (let z : ⊥ = omega arith in z))
+  first_no_lem ts d =
+      subst (FirstAnswer Q ts) (sym (is_first_no q ts)) (found [] ts d S.start (λ s h. absurd (let z : ⊥ = omega arith in z)))
 
   drops : (l xs : List Triangle) → Q (l ++ xs) → Q l
   drops l [] k = subst Q (append-nil l) k

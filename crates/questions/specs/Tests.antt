@@ -1,6 +1,6 @@
 -- The questions as tests that compute.
-use Rattle.std.specs.Prelude.{ℕ, Bool, true, false, cond, not, ◌&&◌, ◌||◌, List, [], ◌∷◌, ◌++◌, length, Some, None, Option, ◌==◌, nat_lt}
-use Rattle.std.specs.List.{list_all, list_any, find, range_with_len}
+use Rattle.std.specs.Prelude.{ℕ, Bool, true, false, not, ◌&&◌, ◌||◌, List, [], ◌∷◌, take, Option, ◌==◌, nat_lt}
+use Rattle.std.specs.List.{list_all, list_any, find, range_with_len, enumerate_from, position}
 use Rattle.shape.specs.declared.triangle.Triangle.{Triangle}
 use Rattle.shape.specs.Sides.{Use, walk, uses}
 use Rattle.questions.specs.declared.side.Side.{Side}
@@ -75,13 +75,9 @@ pair DifferentSets s t = not (same_corners s t)
 abbrev pub passes : Question → List Triangle → Triangle → Bool
 passes q ts t = alone q t && list_all (λ s. pair q s t) ts
 
--- the first triangle at which the answer is no, where those of ts passed
-abbrev pub first_no_from : Question → List Triangle → List Triangle → Option ℕ
-first_no_from q ts [] = None
-first_no_from q ts (x ∷ xs) = cond (passes q ts x) (first_no_from q (ts ++ x ∷ []) xs) (Some (length ts))
-
+-- the first triangle at which the answer is no, where those before it are the earlier ones
 abbrev pub first_no : Question → List Triangle → Option ℕ
-first_no q ts = first_no_from q [] ts
+first_no q ts = position (λ p. not (passes q (take p.0 ts) p.1)) (enumerate_from 0 ts)
 
 -- whether t has edge number i, or point i as a corner
 abbrev pub touches : Part → ℕ → Triangle → Bool

@@ -119,13 +119,10 @@ impl Question {
     pub(crate) fn first_no(self, triangles: &[Triangle]) -> Option<usize>
         ensures { result ≡ first_no self triangles.now }
     {
-        // a loop, which the check follows by itself; `position` over the same pairs leaves its goal open
-        for (i, t) in triangles.iter().enumerate() {
-            if !self.passes(&triangles[..i], t) {
-                return Some(i);
-            }
-        }
-        None
+        triangles
+            .iter()
+            .enumerate()
+            .position(|(i, t)| !self.passes(&triangles[..i], t))
     }
 
     // What is answered where the triangle is the first at which the answer is no.
