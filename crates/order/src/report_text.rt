@@ -19,7 +19,7 @@ impl fmt::Display for Report {
     }
 }
 
-// How many there are of what the word names.
+// How many there are of what the word names; no derive tells one from many.
 #[derive(Clone, Copy)]
 struct Counted(usize, &'static str);
 
