@@ -4,3 +4,4 @@ pub mod Facts
 pub mod Viewing
 pub mod Propositions
 pub mod Growing
+pub mod SoundAsMade

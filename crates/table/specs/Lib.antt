@@ -1,3 +1,4 @@
+pub mod Made
 pub mod Lists
 pub mod Forwards
 pub mod Sound

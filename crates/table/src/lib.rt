@@ -4,5 +4,6 @@
 pub mod forward;
 pub mod grow;
 mod lists;
+mod making;
 pub mod table;
 pub mod view;

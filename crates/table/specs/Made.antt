@@ -1,0 +1,14 @@
+-- The table of a mesh as it is made.
+use Rattle.std.specs.Prelude.{◌≡◌, ℕ, List, length, vec_items}
+use Rattle.mesh.specs.Numbering.{made}
+use Rattle.point.specs.declared.Vec3A.{Vec3A}
+use Rattle.shape.specs.declared.triangle.Triangle.{Triangle}
+use Rattle.table.specs.declared.table.Table.{Table}
+use Rattle.table.specs.Tables.{numbering}
+
+-- a base's lists and as many edges, made at n
+pub record MadeOver (points : List Vec3A) (triangles : List Triangle) (edges n : ℕ) (t : Table) : Type 0 where
+  pub points_are : vec_items t.points ≡ points
+  pub triangles_are : vec_items t.triangles ≡ triangles
+  pub edges_are : length (vec_items t.edges) ≡ edges
+  pub numbered : numbering t ≡ made (length points) edges (length triangles) n
