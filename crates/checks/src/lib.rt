@@ -1,8 +1,10 @@
-// Tests of base shapes, of the verdict on them, and of sinks.
+// Tests of base shapes, of the verdict on them, of sinks, and of tables of meshes.
 #![tactic(auto)]
 
 #[cfg(test)]
 mod interpolation;
+#[cfg(test)]
+mod making;
 mod pyramid;
 #[cfg(test)]
 mod sinks;

@@ -2,15 +2,20 @@
 ghost use Rattle.std.specs.Prelude.{◌≡◌, ◌≤◌, [], replicate, IfOk, vec_items, vec_len};
 ghost use Rattle.mesh.specs.Numbering.{blank};
 ghost use Rattle.shape.specs.Questions.{Accepted};
-ghost use Rattle.table.specs.Made.{MadeOver};
+ghost use Rattle.table.specs.Made.{Answers, MadeOver};
 ghost use Rattle.table.specs.Tables.{numbering, triangles};
 
 use crate::forward::forwards_of;
+use crate::grow::MAX_SUBDIVISIONS;
+use crate::lists::{points_of, triangles_of};
 use crate::table::Table;
 use growing::edge::Edge;
 use growing::subdivide::subdivide_all;
 use point::Vec3A;
+use questions::check::check_shape;
+use refusal::Refusal;
 use rings::contents::{Ring, TriangleContents};
+use shape::base_shape::BaseShape;
 use shape::triangle::Triangle;
 use std::alloc::{AllocError, Global};
 
@@ -49,7 +54,7 @@ impl Table {
         }
     }
 
-    // The table over an accepted base, made at `n`. Nothing but this allocates for a mesh.
+    // The table over an accepted base, made at `n`.
     pub(crate) fn made(
         alloc: Global,
         points: Vec<Vec3A>,
@@ -78,5 +83,26 @@ impl Table {
             n,
             total,
         })
+    }
+
+    // Makes the table of a mesh over a base, with `n` subdivisions, or says why none can be made; the
+    // count is asked before the base. Nothing but this allocates for a mesh.
+    pub fn make<S: BaseShape>(
+        alloc: Global,
+        base: &S,
+        n: usize,
+    ) -> Result<Result<Table, Refusal>, AllocError>
+        ensures { IfOk result (Answers (S.BaseShape.points base.now) (S.BaseShape.triangles base.now) (S.BaseShape.edgeCount base.now) n) }
+    {
+        if n > MAX_SUBDIVISIONS {
+            return Ok(Err(Refusal::TooManySubdivisions { count: n }));
+        }
+        if let Err(refusal) = check_shape(base) {
+            return Ok(Err(refusal));
+        }
+        let points = points_of(alloc, base)?;
+        let triangles = triangles_of(alloc, base)?;
+        let table = Table::made(alloc, points, triangles, base.edges(), n)?;
+        Ok(Ok(table))
     }
 }
