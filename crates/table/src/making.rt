@@ -37,6 +37,7 @@ fn repeated<T: Drop, F: Fn() -> T>(
 
 impl Table {
     // The table of the blank mesh, which has no base.
+    #[tactic(auto, using(crate::proofs::SoundAsMade::blank_sound))]
     pub fn blank(alloc: Global) -> Table
         ensures points { vec_items result.points ≡ [] }
         ensures triangles { triangles result ≡ [] }
