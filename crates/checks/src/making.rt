@@ -34,6 +34,9 @@ fn a_mesh_is_subdivided_up_to_twelve(rt: HostRuntime) -> Result<(), Fail> {
     table.subdivide(0)?;
     table.subdivide(5)?;
     assert_eq!(rt; (table.n, table.total), (12, 196));
+    assert_eq!(rt; table.subdivisions(), 12);
+    assert_eq!(rt; table.vertices_per_main_triangle_shared(), 91);
+    assert_eq!(rt; table.shared_vertices(), 64);
     Ok(())
 }
 

@@ -1,5 +1,6 @@
 -- A sound table stays sound when it grows.
-use Rattle.std.proofs.Common.{◌≡◌, ℕ, ◌+◌, ◌≤◌, ◌⊎◌, List, length, vec_items, vec_len, sym, subst, inl, inr}
+use Rattle.std.proofs.Common.{◌≡◌, ℕ, ◌+◌, ◌*◌, ◌≤◌, ◌⊎◌, List, length, vec_items, vec_len, refl, sym, subst, inl, inr, arith}
+use Rattle.std.proofs.Math.Nat.{mul-le-mul_right}
 use mathlib.Core.Logic.{∥∥₁_elim, ∥∥₁_map}
 use native.Mathlib.Bridge.{le_prop}
 use Rattle.growing.specs.declared.edge.Edge.{Edge}
@@ -71,3 +72,8 @@ module _ (t : Table) where
         subst (λ (m : ℕ × ℕ). WithinLimits m.0 m.1 t.total) (λ j. (length (sym p j), length (sym q j)))
         (limits (vec_len t.points) (vec_items t.triangles) (vec_items t.forward) (vec_items t.edges) (vec_items t.contents) (vec_items t.rings) t.n t.total
         t.sound)
+
+  pub few_on_edges : t.n * length (vec_items t.edges) ≤ 1152
+  few_on_edges =
+      let m : t.n * length (vec_items t.edges) ≤ 12 * length (vec_items t.edges) = mul-le-mul_right (length (vec_items t.edges)) small in
+      omega (arith, (limits_read (vec_items t.edges) (vec_items t.contents) (vec_items t.rings) refl refl refl).few_edges)

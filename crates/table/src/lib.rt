@@ -1,6 +1,7 @@
 // The plain table of a mesh.
 #![tactic(auto)]
 
+pub mod counts;
 pub mod forward;
 pub mod grow;
 mod lists;
