@@ -1,6 +1,8 @@
-// Tests of base shapes, of the verdict on them, of sinks, and of tables of meshes.
+// Tests of base shapes, of the verdict on them, of sinks, of tables of meshes and of their faces.
 #![tactic(auto)]
 
+#[cfg(test)]
+mod faces;
 #[cfg(test)]
 mod interpolation;
 #[cfg(test)]

@@ -25,17 +25,17 @@ written_more out at xs ys h =
     ∙ paste-paste out at xs ys (length xs) (length ys) refl refl (omega arith)
     ∙ ap (paste out at (xs ++ ys)) (sym (length-append xs ys)) ∙ pasted out at (xs ++ ys)
 
-numbers-append : (fs gs : List (Face ℕ)) → face_numbers (fs ++ gs) ≡ face_numbers fs ++ face_numbers gs
+pub numbers-append : (fs gs : List (Face ℕ)) → face_numbers (fs ++ gs) ≡ face_numbers fs ++ face_numbers gs
 numbers-append [] gs = refl
 numbers-append (f ∷ fs) gs = ap (λ l. f.0 ∷ f.1 ∷ f.2 ∷ l) (numbers-append fs gs)
 
 room_for : {old new : List ℕ} {at p : ℕ} {fs : List (Face ℕ)} → Wrote old at fs new p → at + length (face_numbers fs) ≤ length old
 room_for {fs = fs} v = omega (arith, three_each fs, v.next_is, v.fits)
 
-as_long : {old new : List ℕ} {at p : ℕ} {fs : List (Face ℕ)} → Wrote old at fs new p → length new ≡ length old
+pub as_long : {old new : List ℕ} {at p : ℕ} {fs : List (Face ℕ)} → Wrote old at fs new p → length new ≡ length old
 as_long {old = old} {at = at} {fs = fs} v = ap length v.holds ∙ written-length old at (face_numbers fs) (room_for v)
 
-joined :
+pub joined :
     {old mid new : List ℕ} {at p q : ℕ} {fs gs : List (Face ℕ)} → Wrote old at fs mid p → Wrote mid p gs new q
     → Wrote old at (fs ++ gs) new q
 joined {old = old} {mid = mid} {new = new} {at = at} {p = p} {q = q} {fs = fs} {gs = gs} v w =
@@ -50,7 +50,7 @@ joined {old = old} {mid = mid} {new = new} {at = at} {p = p} {q = q} {fs = fs} {
           ∙ ap (written old at) (sym (numbers-append fs gs));
     }
 
-same : {old new : List ℕ} {at p : ℕ} {fs gs : List (Face ℕ)} → fs ≡ gs → Wrote old at fs new p → Wrote old at gs new p
+pub same : {old new : List ℕ} {at p : ℕ} {fs gs : List (Face ℕ)} → fs ≡ gs → Wrote old at fs new p → Wrote old at gs new p
 same {old = old} {new = new} {at = at} {p = p} e w = subst (λ (l : List (Face ℕ)). Wrote old at l new p) e w
 
 -- one face more of a list

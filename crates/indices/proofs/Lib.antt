@@ -1,2 +1,3 @@
+pub mod InTurn
 pub mod InTable
 pub mod Answering

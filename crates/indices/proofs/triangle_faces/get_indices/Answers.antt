@@ -3,12 +3,13 @@ use Rattle.rings.specs.declared.contents.Side.TheVariants.{Ab}
 use Rattle.rings.specs.Slices.{read}
 use Rattle.rings.proofs.Patches.{long_patch, whole_patch}
 use Rattle.faces.proofs.Patches.{patch_faces_lem}
+use Rattle.mesh.specs.Calls.{triangle_faces}
 use Rattle.mesh.specs.Faces.{face_numbers}
 use Rattle.mesh.specs.Numbering.{edge_of}
 use Rattle.table.specs.Tables.{numbering, patch_at, triangles}
 use Rattle.table.proofs.Growing.{small}
 use Rattle.faces.specs.Viewed.{view_faces}
-use Rattle.indices.proofs.Answering.{answered, left, square_small}
+use Rattle.indices.proofs.Answering.{answered, left, square_small, triangle_passes}
 use Rattle.indices.proofs.InTable.{table_numbers}
 use Rattle.indices.proofs.triangle_faces.get_indices.Goals as goal
 
@@ -43,7 +44,7 @@ returns-clause-answers c =
     let w = c.view-view.result in
     let there : i < length (triangles t) = search rules in
     let same = table_numbers t i there ∙ sym (ap face_numbers (patch_faces_lem t.n (edge_of (numbering t)) (patch_at t i) w c.view-view.ensures)) in
-    answered (triangles t) (numbering t) i (length c.args.out.now) there (omega arith) c.args.out.now c.write_triangle.new.out (view_faces w) c.write_triangle.result
+    answered (triangles t) (numbering t) (triangle_faces i (length c.args.out.now)) (triangle_passes (triangles t) (numbering t) i (length c.args.out.now) there (omega arith)) c.args.out.now c.write_triangle.new.out (view_faces w) c.write_triangle.result
     c.write_triangle.ensures.wrote same
 
 pub returns-clause-written : goal.returns-clause-written
@@ -53,5 +54,5 @@ returns-clause-written c =
     let w = c.view-view.result in
     let there : i < length (triangles t) = search rules in
     let same = table_numbers t i there ∙ sym (ap face_numbers (patch_faces_lem t.n (edge_of (numbering t)) (patch_at t i) w c.view-view.ensures)) in
-    left (triangles t) (numbering t) i (length c.args.out.now) there (omega arith) c.args.out.now c.write_triangle.new.out (view_faces w) c.write_triangle.result
+    left (triangles t) (numbering t) (triangle_faces i (length c.args.out.now)) (triangle_passes (triangles t) (numbering t) i (length c.args.out.now) there (omega arith)) c.args.out.now c.write_triangle.new.out (view_faces w) c.write_triangle.result
     c.write_triangle.ensures.wrote same
