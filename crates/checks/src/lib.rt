@@ -2,7 +2,7 @@
 #![tactic(auto)]
 
 #[cfg(test)]
-mod faces;
+mod face_lists;
 #[cfg(test)]
 mod interpolation;
 #[cfg(test)]
