@@ -1,6 +1,8 @@
-// Tests of base shapes, of the verdict on them, of sinks, of tables of meshes and of their faces.
+// Tests of base shapes, of the verdict on them, of sinks, and of tables of meshes, their faces and data filled from them.
 #![tactic(auto)]
 
+#[cfg(test)]
+mod data;
 #[cfg(test)]
 mod face_lists;
 #[cfg(test)]
