@@ -23,6 +23,7 @@ pub fn fill<G: Generator>(
     if vertices > length {
         return Err(Refusal::DataTooShort { vertices, length });
     }
+    // over positions: a zip of the places and the points was tried, and its contract stayed open
     for i in 0..vertices {
         slice[i] = generator.generate(points[i]);
     }
