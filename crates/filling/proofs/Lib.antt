@@ -1,1 +1,2 @@
+pub mod FewVertices
 pub mod Stepping

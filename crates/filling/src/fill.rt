@@ -1,6 +1,6 @@
 // One fill for every kind of data.
 ghost use Rattle.std.specs.Prelude.{◌≡◌};
-ghost use Rattle.filling.specs.Fills.{Fills};
+ghost use Rattle.filling.specs.FillsData.{FillsData};
 ghost use Rattle.table.specs.Tables.{numbering, triangles};
 
 use crate::generator::Generator;
@@ -16,7 +16,7 @@ pub fn fill<G: Generator>(
     generator: &mut G,
     slice: &mut [G::Item],
 ) -> Result<(), Refusal>
-    ensures { Fills G.Generator.generates (triangles table.now) (numbering table.now) points.now generator.old slice.old result generator.new slice.new }
+    ensures { FillsData G.Generator.generates (triangles table.now) (numbering table.now) points.now generator.old slice.old result generator.new slice.new }
 {
     let vertices = table.total as usize;
     let length = slice.len();

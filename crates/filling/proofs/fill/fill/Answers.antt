@@ -1,4 +1,4 @@
-use Rattle.std.proofs.Common.{◌≡◌, ◌<◌, length, None, vec_items, refl, sym, ap, ◌∙◌, le-leb, arith}
+use Rattle.std.proofs.Common.{◌≡◌, ◌<◌, length, None, sym, ap, ◌∙◌, le-leb, arith}
 use Rattle.std.proofs.lemmas.List.{get_or_default}
 use Rattle.mesh.specs.Calls.{answered_or, fill, refusal, unless, unless_refused}
 use Rattle.point.specs.Points.{nought, point}
@@ -6,14 +6,12 @@ use Rattle.points.specs.Calculating.{at}
 use Rattle.points.specs.Filling.{filled}
 use Rattle.refusal.specs.declared.Refusal.TheVariants.{DataTooShort}
 use Rattle.table.specs.Tables.{numbering, triangles}
-use Rattle.table.proofs.Growing.{limits_read}
+use Rattle.filling.proofs.FewVertices.{few_vertices}
 use Rattle.filling.proofs.Stepping.{next_vertex, none_left}
 use Rattle.filling.proofs.fill.fill.Goals as goal
 
 pub bounds-points-i : goal.bounds-points-i
-bounds-points-i g c =
-    let t = c.args.table.now in
-    omega (arith, c.loop-i-test.true, (limits_read t (vec_items t.edges) (vec_items t.contents) (vec_items t.rings) refl refl refl).few_vertices)
+bounds-points-i g c = omega (arith, c.loop-i-test.true, few_vertices c.args.table.now)
 
 pub loop-i-preserved : goal.loop-i-preserved
 loop-i-preserved g c =
@@ -23,9 +21,7 @@ loop-i-preserved g c =
     let F = c.args.points.now in
     let G = g.G.Generator.generates in
     let P = at (point nought nought nought) F in
-    let there : i < length F
-    = omega
-    (arith, c.loop-i-test.true, c.told-points, (limits_read t (vec_items t.edges) (vec_items t.contents) (vec_items t.rings) refl refl refl).few_vertices) in
+    let there : i < length F = omega (arith, c.loop-i-test.true, c.told-points, few_vertices t) in
     let made : (c.generate.result, c.generate.new.self) ≡ G c.loop-i.generator (P i)
     = c.generate.ensures ∙ ap (G c.loop-i.generator) (get_or_default F i _ (point nought nought nought) there) in
     next_vertex G P i t.total c.loop-i.generator c.loop-i.slice (filled G P t.total c.args.generator.now l) c.generate.result c.generate.new.self
