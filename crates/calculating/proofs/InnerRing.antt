@@ -17,7 +17,7 @@ use Rattle.rings.specs.declared.ring_view.RingView.{RingView}
 use Rattle.rings.specs.declared.slice.Slice.{Slice}
 use Rattle.rings.specs.declared.slice.Slice.TheVariants.{Forward, Backward}
 use Rattle.rings.specs.Held.{held, held_view, Fits, ring_at}
-use Rattle.rings.specs.Sides.{side_len}
+use Rattle.rings.specs.Sides.{on_sides, side_len}
 use Rattle.rings.specs.Slices.{read, Forth}
 use Rattle.rings.specs.Views.{Shows, Whole, inside}
 use Rattle.rings.proofs.InRing.{from}
@@ -50,7 +50,7 @@ module _ (between : Vec3A → Vec3A → Float → Vec3A) (half : Vec3A → Vec3A
     L = side_len (ring_at rs i)
 
     abbrev side : Side → ℕ → ℕ
-    side k j = get_or (ring_at rs i).sides.items (from L k j) 0
+    side k j = get_or (on_sides (ring_at rs i)) (from L k j) 0
 
     abbrev sides : List (Write Vec3A)
     sides =
@@ -126,12 +126,12 @@ short_at l n m i z e h =
     ]
 
 side_below :
-    (rs : List Ring) (d i n : ℕ) (w : RingView) → Shows rs d i w → 0 < n → Each (λ x. x < n) (ring_at rs i).sides.items
+    (rs : List Ring) (d i n : ℕ) (w : RingView) → Shows rs d i w → 0 < n → Each (λ x. x < n) (on_sides (ring_at rs i))
     → (s : Side) (j : ℕ) → get_or (read (slice_at s w)) j 0 < n
 side_below rs d i n w h z e s j =
     let L : ℕ = side_len (ring_at rs i) in
     short_at (read (slice_at s w)) n L j z (long_shown rs d i w h s)
-    (λ lt. subst (λ x. x < n) (sym (read_shown rs d i w h s j lt)) (each_at n (ring_at rs i).sides.items z e (from L s j)))
+    (λ lt. subst (λ x. x < n) (sym (read_shown rs d i w h s j lt)) (each_at n (on_sides (ring_at rs i)) z e (from L s j)))
 
 pub ring_below :
     (rs : List Ring) (d i n : ℕ) (w : RingView) → 0 < d → Shows rs (d - 1) i w → 0 < n → Each (λ x. x < n) (vertices (held rs d (kind.More i)))
@@ -141,7 +141,7 @@ ring_below rs (suc d) i n w lt h z e =
     let q : suc d - 1 ≡ d = omega arith in
     let S : Shows rs d i w = subst (λ (x : ℕ). Shows rs x i w) q h in
     let g : Ring = ring_at rs i in
-    let sides : List ℕ = g.sides.items in
+    let sides : List ℕ = on_sides g in
     let within : Each (λ x. x < n) (vertices (held rs d g.inner)) = each_right (λ x. x < n) sides (vertices (held rs d g.inner)) e.1.1.1 in
     let here : Each (λ x. x < n) sides = each_left (λ x. x < n) sides (vertices (held rs d g.inner)) e.1.1.1 in
     record {

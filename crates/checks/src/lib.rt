@@ -1,6 +1,8 @@
-// Tests of base shapes, of the verdict on them, of sinks, and of tables of meshes, their faces and data filled from them.
+// Tests of base shapes, of the verdict on them, of sinks, of rings and edges, and of tables of meshes, their faces and data filled from them.
 #![tactic(auto)]
 
+#[cfg(test)]
+mod copied;
 #[cfg(test)]
 mod data;
 #[cfg(test)]

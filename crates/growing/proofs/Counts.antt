@@ -8,7 +8,7 @@ use Rattle.rings.specs.declared.contents.Ring.{Ring}
 use Rattle.rings.specs.declared.contents.TriangleContents.{TriangleContents}
 use Rattle.rings.specs.declared.contents.TriangleContents.TheVariants as kind
 use Rattle.rings.specs.Held.{held, Fits, ring_at}
-use Rattle.rings.specs.Sides.{side_len}
+use Rattle.rings.specs.Sides.{on_sides, side_len}
 use Rattle.growing.specs.Placed.{EqualSides}
 
 none_of_count : (m : ℕ) → m ≤ 1 → OfCount m numbered.None
@@ -25,7 +25,7 @@ more_of_count m (suc (suc k)) a b c sides t e h l r =
     let q : suc (suc (suc (suc (suc k)))) ≡ m = omega arith in
     subst (λ (n : ℕ). OfCount n (numbered.More a b c (suc (suc k)) sides t)) q (of_more (omega arith) r)
 
-pub held_of_count : (rs : List Ring) (d m : ℕ) (t : TriangleContents) → EqualSides rs → Fits rs d m t → OfCount m (held rs d t)
+pub held_of_count : (rs : List Ring) (d m : ℕ) (t : TriangleContents) → EqualSides rs d t → Fits rs d m t → OfCount m (held rs d t)
 held_of_count rs d m kind.None w h = none_of_count m h
 held_of_count rs d m (kind.One x) w h = subst (λ (n : ℕ). OfCount n (numbered.One x)) (sym h) of_2
 held_of_count rs d m (kind.Three a b c) w h = subst (λ (n : ℕ). OfCount n (numbered.Three a b c)) (sym h) of_3
@@ -33,7 +33,7 @@ held_of_count rs d m (kind.Six a b c ab bc ca) w h = subst (λ (n : ℕ). OfCoun
 held_of_count rs zero m (kind.More i) w h = absurd h
 held_of_count rs (suc d) m (kind.More i) w h =
     let g : Ring = ring_at rs i in
-    more_of_count m (side_len g) g.a g.b g.c g.sides.items (held rs d g.inner) h.1 h.2 (w i h.0) (held_of_count rs d (side_len g) g.inner w h.4)
+    more_of_count m (side_len g) g.a g.b g.c (on_sides g) (held rs d g.inner) h.1 h.2 w.0 (held_of_count rs d (side_len g) g.inner w.1 h.4)
 
 taken_of_count : (n : ℕ) (g : NumberedContents) → 1 ≤ n → OfCount n g → taken g ≡ n
 taken_of_count n g p of_0 = absurd (omega arith)

@@ -7,8 +7,7 @@ use Rattle.mesh.proofs.Invariant.{bare, made_is}
 use Rattle.rings.specs.declared.contents.Ring.{Ring}
 use Rattle.rings.specs.declared.contents.TriangleContents.{TriangleContents}
 use Rattle.rings.specs.declared.contents.TriangleContents.TheVariants as kind
-use Rattle.rings.specs.Held.{held, no_ring}
-use Rattle.rings.specs.Sides.{side_len}
+use Rattle.rings.specs.Held.{held}
 use Rattle.growing.specs.declared.edge.Edge.{Edge}
 use Rattle.growing.specs.Edges.{edge_in, edge_vertices, no_edge, OfLength}
 use Rattle.growing.specs.Placed.{Placed}
@@ -20,13 +19,12 @@ none [] h = refl
 none (x ∷ l) h = absurd (omega arith)
 
 pub bare_replicate :
-    (E T R : ℕ) (e : Edge) (g : Ring) → OfLength 0 e → length g.sides.items ≡ 3 * side_len g → 3 * T ≤ R → Bare (replicate E e) (replicate T kind.None) (replicate R g)
-bare_replicate E T R e g o w p =
+    (E T R : ℕ) (e : Edge) (g : Ring) → OfLength 0 e → 3 * T ≤ R → Bare (replicate E e) (replicate T kind.None) (replicate R g)
+bare_replicate E T R e g o p =
     record {
       edges = λ i l. subst (OfLength 0) (sym (get_or-replicate E i e no_edge (omega (arith, length-replicate E e)))) o;
       contents = λ i l. get_or-replicate T i kind.None kind.None (omega (arith, length-replicate T kind.None));
       room = omega (arith, length-replicate T kind.None, length-replicate R g);
-      equal = λ i l. subst (λ (x : Ring). length x.sides.items ≡ 3 * side_len x) (sym (get_or-replicate R i g no_ring (omega (arith, length-replicate R g)))) w;
     }
 
 module _ (es : List Edge) (ts : List TriangleContents) (rs : List Ring) (b : Bare es ts rs) where
@@ -35,7 +33,7 @@ module _ (es : List Edge) (ts : List TriangleContents) (rs : List Ring) (b : Bar
       record {
         edges = b.edges;
         contents = λ i p.
-            subst (Placed rs (3 * i) 3 0) (sym (b.contents i p)) record { fits = omega arith; own = tt; room = omega (arith, b.room); equal = b.equal };
+            subst (Placed rs (3 * i) 3 0) (sym (b.contents i p)) record { fits = omega arith; own = tt; room = omega (arith, b.room); equal = tt };
       }
 
   bare_numbering : (P : ℕ) → numbering 0 P es ts rs ≡ bare P (length es) (length ts)

@@ -86,7 +86,7 @@ module _
     still_placed : (j c : ℕ) → j ≢ i → Placed rs1 (3 * j) 3 c (kind_at ts1 j) → Placed rs2 (3 * j) 3 c (kind_at ts2 j)
     still_placed j c e w =
         subst (λ (t : TriangleContents). Placed rs2 (3 * j) 3 c t) (sym (get_or-set_other ts1 i j x kind.None e))
-        (placed_same rs1 rs2 (3 * j) 3 c (kind_at ts1 j) moves.long moves.placed.equal (own_same j e) w)
+        (placed_same rs1 rs2 (3 * j) 3 c (kind_at ts1 j) moves.long (own_same j e) w)
 
     now_placed : Placed rs2 (3 * i) 3 (m + k) (kind_at ts2 i)
     now_placed = subst (λ (t : TriangleContents). Placed rs2 (3 * i) 3 (m + k) t) (sym (get_or-set_same ts1 i x kind.None within)) moves.placed

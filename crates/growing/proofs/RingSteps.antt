@@ -1,31 +1,17 @@
 -- One step of contents that have a ring, or get one.
-use Rattle.std.proofs.Common.{◌≡◌, ℕ, zero, suc, ◌+◌, ◌-◌, ◌*◌, ◌/◌, ◌<◌, ◌≤◌, ◌≢◌, ◌⊎◌, List, [], ◌∷◌, ◌++◌, length, get_or, set, sym, refl, ap, ◌∙◌, subst, inl, inr, arith, length-append}
-use Rattle.std.proofs.lemmas.List.{length-set, get_or_default, get_or-set_same, get_or-set_other}
-use Rattle.std.proofs.lemmas.Bool.{cases_eq}
+use Rattle.std.proofs.Common.{◌≡◌, ℕ, zero, suc, ◌+◌, ◌-◌, ◌*◌, ◌/◌, ◌<◌, ◌≤◌, ◌≢◌, ◌⊎◌, List, [], ◌∷◌, ◌++◌, length, set, sym, refl, ap, ◌∙◌, subst, inl, inr, arith, length-append}
+use Rattle.std.proofs.lemmas.List.{length-set, get_or-set_same, get_or-set_other}
 use Rattle.pattern.specs.Step as numbered
 use Rattle.pattern.specs.Step.{NumberedContents}
 use Rattle.rings.specs.declared.contents.Ring.{Ring}
 use Rattle.rings.specs.declared.contents.TriangleContents.{TriangleContents}
 use Rattle.rings.specs.declared.contents.TriangleContents.TheVariants as kind
 use Rattle.rings.specs.Held.{held, Fits, Own, ring_at, no_ring}
-use Rattle.rings.specs.Sides.{side_len}
-use Rattle.growing.specs.Placed.{EqualSides, Placed}
+use Rattle.rings.specs.Sides.{on_sides, side_len}
+use Rattle.growing.specs.Placed.{Equal, EqualSides, Placed}
 use Rattle.growing.specs.RingGrowth.{LongerRing}
 use Rattle.growing.specs.Stepping.{Ready, Moves, Steps}
 use Rattle.growing.proofs.Unchanged.{Same, held_same, placed_same}
-
--- a ring with as many vertices on each side
-abbrev Equal : Ring → Type 0
-Equal g = length g.sides.items ≡ 3 * side_len g
-
-equal-set : (rs : List Ring) (b : ℕ) (g : Ring) → Equal g → EqualSides rs → EqualSides (set rs b g)
-equal-set rs b g e w i p =
-    let q : i < length rs = omega (arith, length-set rs b g) in
-    elim (cases_eq i b) [
-      | inl z ↦ (let r : b < length rs = omega arith in
-          subst Equal (sym (ap (ring_at (set rs b g)) z ∙ get_or-set_same rs b g no_ring r)) e)
-      | inr n ↦ subst Equal (sym (get_or-set_other rs b i g no_ring n)) (w i q)
-    ]
 
 -- three vertices more
 longer : (l : List ℕ) (n x y z : ℕ) → length l ≡ 3 * n → length (l ++ (x ∷ y ∷ z ∷ [])) ≡ 3 * (n + 1)
@@ -46,24 +32,23 @@ module _
 
   pub around_held :
       held (set rs b g) (suc d) (kind.More b)
-      ≡ numbered.More g.a g.b g.c (side_len g) g.sides.items (held rs d g.inner)
+      ≡ numbered.More g.a g.b g.c (side_len g) (on_sides g) (held rs d g.inner)
   around_held =
-      ap (λ (x : Ring). numbered.More x.a x.b x.c (side_len x) x.sides.items (held (set rs b g) d x.inner)) written
-      ∙ ap (λ (x : NumberedContents). numbered.More g.a g.b g.c (side_len g) g.sides.items x)
+      ap (λ (x : Ring). numbered.More x.a x.b x.c (side_len x) (on_sides x) (held (set rs b g) d x.inner)) written
+      ∙ ap (λ (x : NumberedContents). numbered.More g.a g.b g.c (side_len g) (on_sides g) x)
       (held_same rs (set rs b g) (suc b) d g.inner inner.own untouched)
 
   pub around_placed : Placed (set rs b g) b (suc d) (3 + side_len g) (kind.More b)
   around_placed =
       let long : length (set rs b g) ≡ length rs = length-set rs b g in
       let room : suc b + d ≤ length rs = inner.room in
-      let all : EqualSides (set rs b g) = equal-set rs b g equal inner.equal in
-      let in' : Placed (set rs b g) (suc b) d (side_len g) g.inner = placed_same rs (set rs b g) (suc b) d (side_len g) g.inner long all untouched inner in
+      let in' : Placed (set rs b g) (suc b) d (side_len g) g.inner = placed_same rs (set rs b g) (suc b) d (side_len g) g.inner long untouched inner in
       let len : side_len (ring_at (set rs b g) b) ≡ side_len g = ap side_len written in
       record {
         fits = (omega arith, omega arith, omega arith, omega arith, subst (λ (x : Ring). Fits (set rs b g) d (side_len x) x.inner) (sym written) in'.fits);
         own = (refl, subst (λ (x : Ring). Own (set rs b g) (suc b) d x.inner) (sym written) in'.own);
         room = omega arith;
-        equal = all;
+        equal = (subst Equal (sym written) equal, subst (λ (x : Ring). EqualSides (set rs b g) d x.inner) (sym written) in'.equal);
       }
 
 more_alike :
@@ -91,7 +76,7 @@ more_ready rs i (suc d) m h r =
     let next : suc i ≡ i + 1 = omega arith in
     let less : d ≡ suc d - 1 = omega arith in
     let inner : Placed rs (suc i) d (side_len (ring_at rs i)) (ring_at rs i).inner
-    = record { fits = f.4; own = r.placed.own.1; room = omega arith; equal = r.placed.equal } in
+    = record { fits = f.4; own = r.placed.own.1; room = omega arith; equal = r.placed.equal.1 } in
     record {
       placed =
           subst (λ (x : ℕ × ℕ). Placed rs x.0 x.1 (side_len (ring_at rs i)) (ring_at rs i).inner) (λ j. (next j, less j)) inner;
@@ -105,35 +90,21 @@ pub some_deep : (rs : List Ring) (i d m h : ℕ) → Ready rs i d m 1 (kind.More
 some_deep rs i zero m h r = absurd r.placed.own
 some_deep rs i (suc d) m h r = omega arith
 
--- the ring that contents step from, by any default
-pub first_read : (rs : List Ring) (i d m h : ℕ) (x : Ring) → Ready rs i d m 1 (kind.More i) h → get_or rs i x ≡ ring_at rs i
-first_read rs i d m h x r =
-    let room = r.placed.room in
-    let some = some_deep rs i d m h r in
-    get_or_default rs i x no_ring (omega arith)
-
-module _ (rs rs1 : List Ring) (i d m h h' : ℕ) (t : TriangleContents) (x : Ring)
-    (s : Steps rs (i + 1) 1 (get_or rs i x).inner (h + 3) rs1 t h') (r : Ready rs i d m 1 (kind.More i) h) where
-  pub inner_steps : Steps rs (i + 1) 1 (ring_at rs i).inner (h + 3) rs1 t h'
-  inner_steps = subst (λ (g : Ring). Steps rs (i + 1) 1 g.inner (h + 3) rs1 t h') (first_read rs i d m h x r) s
-
-  -- after its inner contents stepped it is as it was
-  pub then_read : (y : Ring) → get_or rs1 i y ≡ ring_at rs i
-  then_read y =
-      let v = inner_steps (d - 1) (side_len (ring_at rs i)) (more_ready rs i d m h r) in
-      let long = v.long in
-      let room = r.placed.room in
-      let some = some_deep rs i d m h r in
-      get_or_default rs1 i y no_ring (omega arith) ∙ v.others i (inl (omega arith))
+-- the ring that contents step from is as it was after its inner contents stepped
+pub then_read :
+    (rs rs1 : List Ring) (i d m h h' : ℕ) (t : TriangleContents) → Steps rs (i + 1) 1 (ring_at rs i).inner (h + 3) rs1 t h'
+    → Ready rs i d m 1 (kind.More i) h → ring_at rs1 i ≡ ring_at rs i
+then_read rs rs1 i d m h h' t s r =
+    (s (d - 1) (side_len (ring_at rs i)) (more_ready rs i d m h r)).others i (inl (omega arith))
 
 -- and has room for three vertices more
-pub few_sides : (rs : List Ring) (i d m h : ℕ) → Ready rs i d m 1 (kind.More i) h → length (ring_at rs i).sides.items ≤ 24
+pub few_sides : (rs : List Ring) (i d m h : ℕ) → Ready rs i d m 1 (kind.More i) h → length (on_sides (ring_at rs i)) ≤ 24
 few_sides rs i zero m h r = absurd r.placed.own
 few_sides rs i (suc d) m h r =
     let f = r.placed.fits in
     let len : m ≡ 3 + side_len (ring_at rs i) = f.1 in
     let few = r.few in
-    omega (arith, r.placed.equal i f.0)
+    omega (arith, r.placed.equal.0)
 
 -- a ring with other contents inside
 abbrev with_inner : Ring → TriangleContents → Ring
@@ -158,9 +129,9 @@ more_moves rs rs1 i (suc d) m h h' g t l s r =
     = subst (λ (x : ℕ × ℕ × ℕ). Moves rs x.0 x.1 L 1 (ring_at rs i).inner x.2 rs1 t h')
     (λ j. (next j, less j, free j)) (s (suc d - 1) L (more_ready rs i (suc d) m h r)) in
     let within : i < length rs1 = omega (arith, f.0, v.long) in
-    let equal : Equal (ring_at rs i) = r.placed.equal i f.0 in
-    let long : length g.sides.items ≡ 3 * (L + 1) = ap length l.sides_are ∙ longer (ring_at rs i).sides.items L h (suc h) (suc (suc h)) equal in
-    let more : L + 1 ≡ side_len g = sym (third (length g.sides.items) (L + 1) long) in
+    let equal : Equal (ring_at rs i) = r.placed.equal.0 in
+    let long : length (on_sides g) ≡ 3 * (L + 1) = ap length l.sides_are ∙ longer (on_sides (ring_at rs i)) L h (suc h) (suc (suc h)) equal in
+    let more : L + 1 ≡ side_len g = sym (third (length (on_sides g)) (L + 1) long) in
     let one : side_len g ≡ suc L = omega (arith, more) in
     let low : 2 ≤ side_len g = omega arith in
     let nine : side_len g ≤ 9 = omega arith in

@@ -6,7 +6,6 @@ use Rattle.rings.specs.declared.contents.TriangleContents.{TriangleContents}
 use Rattle.rings.specs.declared.contents.TriangleContents.TheVariants as kind
 use Rattle.growing.specs.declared.edge.Edge.{Edge}
 use Rattle.growing.specs.Edges.{edge_in, edge_vertices, OfLength}
-use Rattle.growing.specs.Placed.{EqualSides}
 use Rattle.growing.specs.SteppingAll.{all_held, AllPlaced, kind_at}
 
 -- the vertex numbers that tables hold, with the count of subdivisions and the total
@@ -29,4 +28,3 @@ pub record Bare (es : List Edge) (ts : List TriangleContents) (rs : List Ring) :
   pub edges : (i : ℕ) → i < length es → OfLength 0 (edge_in es i)
   pub contents : (i : ℕ) → i < length ts → kind_at ts i ≡ kind.None
   pub room : 3 * length ts ≤ length rs
-  pub equal : EqualSides rs

@@ -2,25 +2,23 @@
 ghost use Rattle.std.specs.Prelude.{◌≡◌, ℕ, ◌+◌, ◌*◌, ◌<◌, ◌≤◌, ◌++◌, map, length};
 ghost use Rattle.mesh.specs.Numbering.{lengthened};
 ghost use Rattle.pattern.specs.Step.{range};
-ghost use Rattle.growing.specs.Edges.{edge_in, edge_vertices, len_at, no_edge, OfLength};
+ghost use Rattle.growing.specs.Edges.{edge_in, edge_vertices, empty_edge, len_at, OfLength};
 
 use crate::vertices::push_range;
-use arrayvec::ArrayVec;
+use rings::row::Row;
 
 // The vertices between the corners of an edge.
-#[derive(Clone, Drop)]
+#[derive(Clone, Copy)]
 pub struct Edge {
-    pub points: ArrayVec<u32, 12>,
+    pub points: Row<12>,
 }
 
 impl Edge {
     // An edge that has no vertex yet.
     pub fn empty() -> Edge
-        ensures { result ≡ no_edge }
+        ensures { result ≡ empty_edge }
     {
-        Edge {
-            points: ArrayVec::new(),
-        }
+        Edge { points: Row::new() }
     }
 
     // The vertices of the edge.
@@ -28,7 +26,7 @@ impl Edge {
         ensures are { result.now ≡ edge_vertices self.now }
         ensures short { length result.now ≤ 12 }
     {
-        &self.points
+        self.points.as_slice()
     }
 
     // Takes `amount` vertices more, from `next` on.

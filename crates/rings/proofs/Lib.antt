@@ -4,3 +4,4 @@ pub mod Agree
 pub mod Shown
 pub mod Patches
 pub mod Propositions
+pub mod Opening

@@ -9,7 +9,7 @@ use Rattle.rings.specs.declared.contents.TriangleContents.{TriangleContents}
 use Rattle.rings.specs.declared.ring_view.RingView.{RingView}
 use Rattle.rings.specs.declared.slice.Slice.{Slice}
 use Rattle.rings.specs.Held.{Fits, held, held_view, ring_at}
-use Rattle.rings.specs.Sides.{side_len}
+use Rattle.rings.specs.Sides.{on_sides, side_len}
 use Rattle.rings.specs.Slices.{read}
 use Rattle.rings.specs.Views.{corner_at, edge_at, inner_at, inside, ring_of_view, table_ring, Shows, Whole}
 use Rattle.rings.proofs.Agree.{Agree}
@@ -44,7 +44,7 @@ slice_at Ca w = w.ca
 -- what a view of a ring reads along a side, position by position
 pub read_shown :
     (rs : List Ring) (d i : ℕ) (w : RingView) → Shows rs d i w → (s : Side) (j : ℕ) → j < side_len (ring_at rs i)
-    → get_or (read (slice_at s w)) j 0 ≡ get_or (ring_at rs i).sides.items (from (side_len (ring_at rs i)) s j) 0
+    → get_or (read (slice_at s w)) j 0 ≡ get_or (on_sides (ring_at rs i)) (from (side_len (ring_at rs i)) s j) 0
 read_shown rs d i w h Ab j l = ap (λ x. get_or x j 0) h.ab_is ∙ at_side (ring_at rs i) Ab j l
 read_shown rs d i w h Bc j l = ap (λ x. get_or x j 0) h.bc_is ∙ at_side (ring_at rs i) Bc j l
 read_shown rs d i w h Ca j l = ap (λ x. get_or x j 0) h.ca_is ∙ at_side (ring_at rs i) Ca j l

@@ -6,10 +6,16 @@ use Rattle.pattern.specs.Step.{NumberedContents, view}
 use Rattle.rings.specs.declared.contents.Ring.{Ring}
 use Rattle.rings.specs.declared.contents.TriangleContents.{TriangleContents}
 use Rattle.rings.specs.declared.contents.TriangleContents.TheVariants as kind
-use Rattle.rings.specs.Sides.{side_len}
+use Rattle.rings.specs.Rows.{no_vertices}
+use Rattle.rings.specs.Sides.{on_sides, side_len}
 
+-- what is read beyond a table
 abbrev pub no_ring : Ring
-no_ring = record { a = 0; b = 0; c = 0; sides = record { items = [] }; inner = kind.None }
+no_ring = record { a = 0; b = 0; c = 0; sides = record { places = []; len = 0 }; inner = kind.None }
+
+-- a ring that nothing names yet
+abbrev pub blank_ring : Ring
+blank_ring = record { a = 0; b = 0; c = 0; sides = no_vertices 27; inner = kind.None }
 
 -- the ring that a number names
 abbrev pub ring_at : List Ring → ℕ → Ring
@@ -24,7 +30,7 @@ held rs d (kind.Six a b c ab bc ca) = numbered.Six a b c ab bc ca
 held rs zero (kind.More i) = numbered.None
 held rs (suc d) (kind.More i) =
     let g : Ring = ring_at rs i in
-    numbered.More g.a g.b g.c (side_len g) g.sides.items (held rs d g.inner)
+    numbered.More g.a g.b g.c (side_len g) (on_sides g) (held rs d g.inner)
 
 -- the same, read by position
 abbrev pub held_view : List Ring → ℕ → TriangleContents → Contents ℕ

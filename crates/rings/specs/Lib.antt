@@ -3,3 +3,4 @@ pub mod Sides
 pub mod Held
 pub mod Positions
 pub mod Views
+pub mod Rows

@@ -8,7 +8,7 @@ use Rattle.rings.specs.declared.contents.Side.{Side}
 use Rattle.rings.specs.declared.contents.Side.TheVariants.{Ab, Bc, Ca}
 use Rattle.rings.specs.declared.ring_view.RingView.{RingView}
 use Rattle.rings.specs.Held.{ring_at, held, held_view, Fits, Names}
-use Rattle.rings.specs.Sides.{side_len, side_of}
+use Rattle.rings.specs.Sides.{on_sides, side_len, side_of}
 use Rattle.rings.specs.Slices.{read, Forth, Reads}
 
 -- the contents of a view
@@ -56,7 +56,7 @@ abbrev pub table_ring : List Ring → ℕ → ℕ → pattern.Ring ℕ
 table_ring rs d i =
     let g : Ring = ring_at rs i in
     let L : ℕ = side_len g in
-    let sides : List ℕ = g.sides.items in
+    let sides : List ℕ = on_sides g in
     ring_of g.a g.b g.c (λ j. slice_index sides j) (λ j. slice_index sides (L + j)) (λ j. slice_index sides (L + L + j))
     (held_view rs d g.inner)
 

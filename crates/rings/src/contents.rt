@@ -1,10 +1,10 @@
 // The contents of a triangle, as they stand in a plain table of rings.
 ghost use Rattle.std.specs.Prelude.{◌≡◌, ◌*◌, ◌≤◌, length};
 ghost use Rattle.pattern.specs.Ring.{pick};
-ghost use Rattle.rings.specs.Held.{no_ring};
-ghost use Rattle.rings.specs.Sides.{side_len, side_number, side_of};
+ghost use Rattle.rings.specs.Held.{blank_ring};
+ghost use Rattle.rings.specs.Sides.{on_sides, side_len, side_number, side_of};
 
-use arrayvec::ArrayVec;
+use crate::row::Row;
 
 // What lies inside a triangle's edges, by kind. `More` names a ring of the table and holds no `Box`, so
 // that no step allocates.
@@ -60,25 +60,25 @@ impl Side {
 }
 
 // A ring: its corners, its three sides, as long as each other, one behind another, and what lies inside.
-#[derive(Clone, Drop)]
+#[derive(Clone, Copy)]
 pub struct Ring {
     pub a: u32,
     pub b: u32,
     pub c: u32,
-    pub sides: ArrayVec<u32, 27>,
+    pub sides: Row<27>,
     pub inner: TriangleContents,
 }
 
 impl Ring {
     // A ring that nothing names yet.
     pub fn blank() -> Ring
-        ensures { result ≡ no_ring }
+        ensures { result ≡ blank_ring }
     {
         Ring {
             a: 0,
             b: 0,
             c: 0,
-            sides: ArrayVec::new(),
+            sides: Row::new(),
             inner: TriangleContents::None,
         }
     }
@@ -87,9 +87,9 @@ impl Ring {
     pub fn side_len(&self) -> usize
         ensures is { result ≡ side_len self.now }
         ensures short { result ≤ 9 }
-        ensures within { 3 * result ≤ length self.now.sides.items }
+        ensures within { 3 * result ≤ length (on_sides self.now) }
     {
-        self.sides.len() / 3
+        self.sides.count() / 3
     }
 
     // The vertices of one side, without the corners.
@@ -99,6 +99,6 @@ impl Ring {
     {
         let len = self.side_len();
         let start = side.pick(0, len, 2 * len);
-        &self.sides[start..start + len]
+        &self.sides.as_slice()[start..start + len]
     }
 }

@@ -4,4 +4,5 @@
 pub mod contents;
 pub mod positions;
 pub mod ring_view;
+pub mod row;
 pub mod slice;

@@ -1,7 +1,5 @@
-use Rattle.std.proofs.Common.{◌<◌, ◌++◌, length, ap, ◌∙◌, arith}
-use Rattle.std.proofs.lemmas.List.{get_or_default}
-use Rattle.pattern.specs.Step.{range}
-use Rattle.growing.specs.Edges.{edge_vertices, no_edge}
+use Rattle.std.proofs.Common.{◌<◌, length, ap, arith}
+use Rattle.growing.specs.Edges.{edge_vertices}
 use Rattle.growing.proofs.Lengthening.{still, longer_more}
 use Rattle.growing.proofs.edge.lengthen_all.Goals as goal
 
@@ -10,14 +8,11 @@ lengthen-requires c =
     let es = c.args.edges.now in
     let i = c.loop-e.e-index in
     let within : i < length es = omega arith in
-    let same = ap (λ x. length (edge_vertices x)) (get_or_default c.loop-e.edges i c.e-item.result no_edge (omega arith)
-    ∙ still es c.args.amount c.args.next i c.loop-e.edges c.loop-e.free c.loop-e.invariant) in
+    let same = ap (λ x. length (edge_vertices x)) (still es c.args.amount c.args.next i c.loop-e.edges c.loop-e.free c.loop-e.invariant) in
     (omega (arith, same, c.requires.room i within), omega arith)
 
 pub loop-e-preserved : goal.loop-e-preserved
 loop-e-preserved c =
-    let i = c.loop-e.e-index in
-    let read = get_or_default c.loop-e.edges i c.e-item.result no_edge (omega arith) in
-    longer_more c.args.edges.now c.args.amount c.args.next i c.loop-e.edges c.loop-e.free c.loop-e.invariant
+    longer_more c.args.edges.now c.args.amount c.args.next c.loop-e.e-index c.loop-e.edges c.loop-e.free c.loop-e.invariant
     c.lengthen.new.self c.requires.small (omega arith) (omega arith)
-    (c.lengthen.ensures ∙ ap (λ x. edge_vertices x ++ range c.loop-e.free c.args.amount) read)
+    c.lengthen.ensures

@@ -2,8 +2,8 @@ use Rattle.std.proofs.Common.{◌≡◌, ℕ, ◌+◌, ◌*◌, length, replicat
 use Rattle.std.specs.Vec.{with_items}
 use Rattle.std.proofs.lemmas.List.{length-replicate, with_items_is}
 use Rattle.rings.specs.declared.contents.TriangleContents.TheVariants as kind
-use Rattle.rings.specs.Held.{no_ring}
-use Rattle.growing.specs.Edges.{no_edge}
+use Rattle.rings.specs.Held.{blank_ring}
+use Rattle.growing.specs.Edges.{empty_edge}
 use Rattle.growing.specs.Standing.{numbering, Stands}
 use Rattle.growing.proofs.FromBare.{bare_stands}
 use Rattle.mesh.specs.Numbering.{made}
@@ -14,16 +14,16 @@ use Rattle.table.proofs.table.Table.made.Goals as goal
 
 pub subdivide_all-total-requires-clause-stands : goal.subdivide_all-total-requires-clause-stands
 subdivide_all-total-requires-clause-stands c =
-    let e : c.deref_mut.result.now ≡ replicate c.args.edges no_edge = search rules in
+    let e : c.deref_mut.result.now ≡ replicate c.args.edges empty_edge = search rules in
     let t : c.deref_mut-2.result.now ≡ replicate c.len-count.result kind.None = search rules in
-    let r : c.deref_mut-3.result.now ≡ replicate (3 * c.len-count.result) no_ring = search rules in
+    let r : c.deref_mut-3.result.now ≡ replicate (3 * c.len-count.result) blank_ring = search rules in
     bare_stands c.deref_mut.result.now c.deref_mut-2.result.now c.deref_mut-3.result.now (bare_read c.args.edges c.len-count.result _ _ _ e t r)
 
 pub subdivide_all-total-requires-clause-limits : goal.subdivide_all-total-requires-clause-limits
 subdivide_all-total-requires-clause-limits c =
-    let e : c.deref_mut.result.now ≡ replicate c.args.edges no_edge = search rules in
+    let e : c.deref_mut.result.now ≡ replicate c.args.edges empty_edge = search rules in
     let t : c.deref_mut-2.result.now ≡ replicate c.len-count.result kind.None = search rules in
-    let el : length c.deref_mut.result.now ≡ c.args.edges = ap length e ∙ length-replicate c.args.edges no_edge in
+    let el : length c.deref_mut.result.now ≡ c.args.edges = ap length e ∙ length-replicate c.args.edges empty_edge in
     let tl : length c.deref_mut-2.result.now ≡ c.len-count.result = ap length t ∙ length-replicate c.len-count.result kind.None in
     record {
       few_edges = omega (arith, c.requires.accepted.sizes.edges);
@@ -45,9 +45,9 @@ invariant_of-result c =
     let numbered : numbering n s.result es cs rs ≡ made (vec_len c.args.points) c.args.edges (length ts) n
     = numbered_as_made c.args.edges (length ts) (vec_len c.args.points) c.len-first.result n s.result es s.new.edges c.deref_mut.result.now cs s.new.contents
     c.deref_mut-2.result.now rs s.new.rings c.deref_mut-3.result.now (search rules) (search rules) (search rules) e k r (search rules) (s.ensures.made refl) in
-    let alloc : vec_items c.in_ok-edges.edges ≡ replicate c.args.edges no_edge = search rules in
+    let alloc : vec_items c.in_ok-edges.edges ≡ replicate c.args.edges empty_edge = search rules in
     let many : length es ≡ length (vec_items c.in_ok-edges.edges) = search rules in
-    let long : length es ≡ c.args.edges = many ∙ ap length alloc ∙ length-replicate c.args.edges no_edge in
+    let long : length es ≡ c.args.edges = many ∙ ap length alloc ∙ length-replicate c.args.edges empty_edge in
     let z : 0 + n ≡ n = omega arith in
     let st : Stands n s.new.edges s.new.contents s.new.rings = subst (λ (m : ℕ). Stands m s.new.edges s.new.contents s.new.rings) z s.ensures.stands in
     let stands : Stands n es cs rs = stands_same n s.new.edges es s.new.contents cs s.new.rings rs e k r st in
@@ -69,12 +69,12 @@ returns c =
     let e : s.new.edges ≡ es = sym (with_items_is c.in_ok-edges.edges s.new.edges (search rules)) in
     let k : s.new.contents ≡ cs = sym (with_items_is c.in_ok-contents.contents s.new.contents (search rules)) in
     let r : s.new.rings ≡ rs = sym (with_items_is c.in_ok-rings.rings s.new.rings (search rules)) in
-    let alloc : vec_items c.in_ok-edges.edges ≡ replicate c.args.edges no_edge = search rules in
+    let alloc : vec_items c.in_ok-edges.edges ≡ replicate c.args.edges empty_edge = search rules in
     let many : length es ≡ length (vec_items c.in_ok-edges.edges) = search rules in
     record {
       points_are = refl;
       triangles_are = refl;
-      edges_are = many ∙ ap length alloc ∙ length-replicate c.args.edges no_edge;
+      edges_are = many ∙ ap length alloc ∙ length-replicate c.args.edges empty_edge;
       numbered =
           numbered_as_made c.args.edges (length ts) (length (vec_items c.args.points)) c.len-first.result n s.result es s.new.edges c.deref_mut.result.now cs
           s.new.contents c.deref_mut-2.result.now rs s.new.rings c.deref_mut-3.result.now (search rules) (search rules) (search rules) e k r (search rules)
