@@ -1,7 +1,7 @@
 -- Faces written one behind another.
-use Rattle.std.proofs.Common.{◌≡◌, ℕ, ◌+◌, ◌<◌, ◌≤◌, List, [], ◌∷◌, ◌++◌, length, get_or, take, sym, refl, ap, ◌∙◌, subst, ap₂, arith, length-append}
+use Rattle.std.proofs.Common.{◌≡◌, ℕ, ◌+◌, ◌<◌, ◌≤◌, List, [], ◌∷◌, ◌++◌, length, get_or, take, set, sym, refl, ap, ◌∙◌, subst, ap₂, add-zero, arith, length-append}
 use lib.Seq.{paste}
-use Rattle.std.proofs.lemmas.List.Edits.{length-paste, paste_all, paste-paste}
+use Rattle.std.proofs.lemmas.List.Edits.{paste_none, length-paste, paste_more, paste_all, paste-paste}
 use Rattle.std.proofs.lemmas.List.{take_more}
 use Rattle.pattern.specs.Ring.{Face}
 use Rattle.mesh.specs.Faces.{face_numbers}
@@ -25,12 +25,31 @@ written_more out at xs ys h =
     ∙ paste-paste out at xs ys (length xs) (length ys) refl refl (omega arith)
     ∙ ap (paste out at (xs ++ ys)) (sym (length-append xs ys)) ∙ pasted out at (xs ++ ys)
 
+written_three :
+    (out : List ℕ) (at a b c : ℕ) → at + 3 ≤ length out
+    → set (set (set out at a) (at + 1) b) (at + 2) c ≡ written out at (a ∷ b ∷ c ∷ [])
+written_three out at a b c h =
+    let xs : List ℕ = a ∷ b ∷ c ∷ [] in
+    ap₂ (λ o i. set (set (set o i a) (at + 1) b) (at + 2) c) (paste_none out at xs) (sym (add-zero at))
+    ∙ ap (λ o. set (set o (at + 1) b) (at + 2) c) (paste_more out at xs 0 0 (omega arith) (omega arith))
+    ∙ ap (λ o. set o (at + 2) c) (paste_more out at xs 1 0 (omega arith) (omega arith))
+    ∙ paste_more out at xs 2 0 (omega arith) (omega arith) ∙ pasted out at xs
+
 pub numbers-append : (fs gs : List (Face ℕ)) → face_numbers (fs ++ gs) ≡ face_numbers fs ++ face_numbers gs
 numbers-append [] gs = refl
 numbers-append (f ∷ fs) gs = ap (λ l. f.0 ∷ f.1 ∷ f.2 ∷ l) (numbers-append fs gs)
 
 room_for : {old new : List ℕ} {at p : ℕ} {fs : List (Face ℕ)} → Wrote old at fs new p → at + length (face_numbers fs) ≤ length old
 room_for {fs = fs} v = omega (arith, three_each fs, v.next_is, v.fits)
+
+pub put :
+    (out : List ℕ) (at : ℕ) (f : Face ℕ) → at + 3 ≤ length out
+    → Wrote out at (f ∷ []) (set (set (set out at f.0) (at + 1) f.1) (at + 2) f.2) (at + 3)
+put out at f h = record { next_is = refl; fits = h; holds = written_three out at f.0 f.1 f.2 h }
+
+-- no faces
+pub still : (out : List ℕ) (at : ℕ) → at ≤ length out → Wrote out at [] out at
+still out at h = record { next_is = sym (add-zero at); fits = h; holds = paste_none out at [] ∙ pasted out at [] }
 
 pub as_long : {old new : List ℕ} {at p : ℕ} {fs : List (Face ℕ)} → Wrote old at fs new p → length new ≡ length old
 as_long {old = old} {at = at} {fs = fs} v = ap length v.holds ∙ written-length old at (face_numbers fs) (room_for v)
@@ -55,10 +74,9 @@ same {old = old} {new = new} {at = at} {p = p} e w = subst (λ (l : List (Face �
 
 -- one face more of a list
 pub face_more :
-    {old mid new : List ℕ} {at p : ℕ} (fs : List (Face ℕ)) (i : ℕ) (d : Face ℕ) → i < length fs → p + 3 ≤ length mid → Wrote old at (take i fs) mid p
-    → new ≡ paste mid p (face_numbers (get_or fs i d ∷ [])) 3 → Wrote old at (take (i + 1) fs) new (p + 3)
-face_more {mid = mid} {p = p} fs i d h room w e =
-    same (sym (take_more fs i d h)) (joined w (record { next_is = refl; fits = room; holds = e ∙ pasted mid p (face_numbers (get_or fs i d ∷ [])) }))
+    {old mid : List ℕ} {at p : ℕ} (fs : List (Face ℕ)) (i : ℕ) (d : Face ℕ) → i < length fs → p + 3 ≤ length mid → Wrote old at (take i fs) mid p
+    → let f = get_or fs i d in Wrote old at (take (i + 1) fs) (set (set (set mid p f.0) (p + 1) f.1) (p + 2) f.2) (p + 3)
+face_more {mid = mid} {p = p} fs i d h room w = same (sym (take_more fs i d h)) (joined w (put mid p (get_or fs i d) room))
 
 -- the buffer keeps its length
 pub long_buffer : {old new : FaceWriter} {fs : List (Face ℕ)} → Writes fs old new → length new.out.now ≡ length old.out.now

@@ -12,14 +12,20 @@ pub(crate) struct FaceWriter<'a> {
 }
 
 impl<'a> FaceWriter<'a> {
-    // The faces, one behind another.
+    // The faces, one behind another. Number by number, with the buffer and the place beside the loop: a slice of three
+    // that is copied in waits for what was just stored, and a place in the writer is loaded for each number.
     pub(crate) fn write(&mut self, faces: &[Face])
         requires { HasRoom (length faces.now) self.old }
         ensures { Writes faces.now self.old self.new }
     {
+        let out = &mut *self.out;
+        let mut at = self.at;
         for (a, b, c) in faces {
-            self.out[self.at..self.at + 3].copy_from_slice(&[*a, *b, *c]);
-            self.at += 3;
+            out[at] = *a;
+            out[at + 1] = *b;
+            out[at + 2] = *c;
+            at += 3;
         }
+        self.at = at;
     }
 }
