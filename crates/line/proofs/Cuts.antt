@@ -80,7 +80,7 @@ words_past_letters (c ∷ cs) =
     (λ e. at_other c cs e ∙ sym (ap (λ n. words (drop n (c ∷ cs))) (none letter c cs e)))
     (cases_Bool (letter c))
 
-one_word : (text word rest : List ℕ) → word ≡ take (prefix_len letter text) text → rest ≡ drop (prefix_len letter text) text → 0 < length word → words text ≡ word ∷ words rest
+pub one_word : (text word rest : List ℕ) → word ≡ take (prefix_len letter text) text → rest ≡ drop (prefix_len letter text) text → 0 < length word → words text ≡ word ∷ words rest
 one_word [] word rest p q some = absurd (omega (arith, ap length p))
 one_word (c ∷ cs) word rest p q some =
     ⊎_elim
@@ -100,18 +100,21 @@ no_letter (c ∷ cs) p q =
     let hash : eqb c 35 ≡ true = ⊎_elim (λ b. absurd (true≢false (sym b ∙ dark))) (λ h. h) (or_cases (blank c) (eqb c 35) (not-false _ (fails letter c cs q))) in
     cond-false (blank c) _ _ dark ∙ cond-true (eqb c 35) _ _ hash
 
-same_words : (line text : List ℕ) → text ≡ drop (prefix_len blank line) line → words line ≡ words text
+pub same_words : (line text : List ℕ) → text ≡ drop (prefix_len blank line) line → words line ≡ words text
 same_words line text p = sym (words_past_blanks line) ∙ sym (ap words p)
 
-no_word : (line text word rest : List ℕ) → text ≡ drop (prefix_len blank line) line → word ≡ take (prefix_len letter text) text → rest ≡ drop (prefix_len letter text) text → length word ≡ 0 → (words line ≡ []) × (words rest ≡ [])
-no_word line text word rest p q r none =
+no_word_left : (line text word rest : List ℕ) → text ≡ drop (prefix_len blank line) line → word ≡ take (prefix_len letter text) text → rest ≡ drop (prefix_len letter text) text → length word ≡ 0 → (words line ≡ []) × (words rest ≡ [])
+no_word_left line text word rest p q r none =
     let stop : prefix_len letter text ≡ 0 = omega (arith, ap length q, length-take-le (prefix_len letter text) text (prefix_len-le-length letter text)) in
     let empty = no_letter text (ap (prefix_len blank) p ∙ ends blank line) stop in
     (same_words line text p ∙ empty, ap words (r ∙ ap (λ n. drop n text) stop) ∙ empty)
 
+pub no_word : (line text word : List ℕ) → text ≡ drop (prefix_len blank line) line → word ≡ take (prefix_len letter text) text → length word ≡ 0 → words line ≡ []
+no_word line text word p q none = (no_word_left line text word (drop (prefix_len letter text) text) p q refl none).0
+
 -- the cut gives the first word of the line, where there is one, and leaves the others
 pub next_word : (line text rest : List ℕ) (word : Bor (List ℕ)) (b : Bool) → text ≡ drop (prefix_len blank line) line → word.now ≡ take (prefix_len letter text) text → rest ≡ drop (prefix_len letter text) text → eqb (length word.now) 0 ≡ b → YieldsFirstRef words line (then_some (not b) word) rest
-next_word line text rest word true p q r e = no_word line text word.now rest p q r (true-eqb _ 0 (sym e))
+next_word line text rest word true p q r e = no_word_left line text word.now rest p q r (true-eqb _ 0 (sym e))
 next_word line text rest word false p q r e = same_words line text p ∙ one_word text word.now rest q r (omega (arith, false-eqb _ 0 (sym e)))
 
 -- each word is one fewer
